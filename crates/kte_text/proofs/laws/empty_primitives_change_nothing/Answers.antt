@@ -1,0 +1,5 @@
+use Rattle.kte_text.specs.Laws.{after_empty}
+use Rattle.kte_text.proofs.laws.empty_primitives_change_nothing.Goals as goal
+
+pub returns : goal.returns
+returns c = after_empty

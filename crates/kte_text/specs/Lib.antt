@@ -1,0 +1,5 @@
+pub mod Units
+pub mod Texts
+pub mod Primitives
+pub mod Loading
+pub mod Laws
