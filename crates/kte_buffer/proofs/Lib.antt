@@ -1,0 +1,7 @@
+mod RowLemmas
+mod TextLemmas
+mod ChangeLemmas
+mod CursorLemmas
+mod HungLemmas
+mod SoundLemmas
+mod TestLemmas

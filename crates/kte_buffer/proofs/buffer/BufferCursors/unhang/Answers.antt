@@ -1,0 +1,9 @@
+use Rattle.std.proofs.Common.{ap}
+use Rattle.kte_buffer.proofs.HungLemmas.{ContainsKey-hung, hung_in-remove}
+use Rattle.kte_buffer.proofs.buffer.BufferCursors.unhang.Goals as goal
+
+pub remove-requires : goal.remove-requires
+remove-requires c = ContainsKey-hung c.self.inside.cursors _ _ (ap (λ b. b.hung) c.self.view_is) c.requires
+
+pub returns-clause-cursors : goal.returns-clause-cursors
+returns-clause-cursors c = hung_in-remove c.self.inside.cursors c.remove.new.self _ _ (ap (λ b. b.hung) c.self.view_is) c.remove.ensures.updates

@@ -1,0 +1,8 @@
+use Rattle.std.proofs.Common.{◌++◌, ◌+◌, List, ℕ, take, drop, arith}
+use Rattle.kte_buffer.proofs.RowLemmas.{changed_row}
+use Rattle.kte_buffer.proofs.rows.remove_units.Goals as goal
+
+pub returns : goal.returns
+returns c =
+    changed_row _ _ _ _ (λ (units : List ℕ). take c.args.column units ++ drop (c.args.column + c.args.count) units)
+    (omega arith) c.index_mut.ensures.value c.remove.ensures

@@ -1,0 +1,7 @@
+pub mod Entries
+pub mod Rows
+pub mod Cursors
+pub mod Buffer
+pub mod Inside
+pub mod Examples
+pub mod Laws

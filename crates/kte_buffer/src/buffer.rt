@@ -1,0 +1,198 @@
+ghost use Rattle.std.specs.Prelude.{◌≡◌, ℕ, ◌≤◌, ◌<◌, List, length, OnOk, OnErr, IfOk, None, false};
+ghost use Rattle.std.specs.FinMap as map;
+ghost use Rattle.std.specs.Option.{option_map};
+ghost use Rattle.std.specs.Result.{result_err};
+ghost use Rattle.kte_text.specs.Primitives.{HasEnd, misfit, after, is_empty};
+ghost use Rattle.kte_place.specs.declared.place.TheConstants.{GREATEST_COLUMN};
+ghost use Rattle.kte_buffer.specs.Entries.{entry};
+
+use crate::cursors::Cursor;
+use crate::{cursors, rows};
+use kte_place::{Cursors, Entry, OnInsert, Place};
+use kte_text::{Lines, Misfit, Primitive, Text};
+use slab::Slab;
+use std::alloc::{AllocError, Global};
+use std::marker::Model;
+
+/// What a buffer is ready for: what cannot fail.
+#[derive(Clone, Copy)]
+pub enum Ready {
+    /// Nothing.
+    Nothing,
+    /// The primitive of this entry.
+    ToApply(Entry),
+    /// Moving cursors to the lines that the primitive of this entry touched.
+    ToRehome(Entry),
+}
+
+/// A text, and the cursors that hang in it, each under a number of its own.
+///
+/// Contracts see its text as lines of UTF-16 units, the place of each cursor, with lines and columns from 0, and what it
+/// is ready for. Moving a cursor and taking one out keep what it is ready for, and any other change ends that.
+#[derive(Drop)]
+pub struct Buffer {
+    rows: Vec<Vec<u16>>,
+    // An empty row with room for the units that a cut moves.
+    fresh: Vec<u16>,
+    // The units of all rows, and one for the end between each two.
+    size: u64,
+    cursors: Slab<Cursor>,
+    ready: Ready,
+}
+
+impl Model for Buffer {
+    ghost use Rattle.kte_buffer.specs.Buffer.{Contents, contents_code};
+
+    ghost Value = { Contents };
+
+    ghost coded = { contents_code };
+
+    ghost use Rattle.kte_buffer.specs.Inside.{contents_of, IsSound};
+
+    ghost view = { contents_of };
+
+    ghost invariant = { IsSound };
+}
+
+impl Buffer {
+    ghost use Rattle.kte_buffer.specs.Buffer.{IsReadyFor, ColumnsFit};
+    ghost use Rattle.kte_buffer.specs.Cursors.{carried, hanging};
+
+    /// The buffer of a text, in which no cursor hangs.
+    pub fn new(alloc: Global, text: Text) -> Result<Buffer, AllocError>
+        ensures text { IfOk result (λ buffer. buffer.text ≡ text) }
+        ensures hung { IfOk result (λ buffer. buffer.hung ≡ map.empty) }
+        ensures ready { IfOk result (λ buffer. buffer.ready ≡ Ready.Nothing) }
+    {
+        let size = text.size();
+        let rows = rows::of_lines(alloc, text.into_lines())?;
+        Ok(Buffer {
+            rows,
+            fresh: Vec::new(alloc),
+            size,
+            cursors: Slab::new(alloc),
+            ready: Ready::Nothing,
+        })
+    }
+
+    /// Whether a primitive fits the text, and else why not: the first cause in the order in which `Misfit` has them.
+    pub fn fits(&self, primitive: &Primitive) -> Result<(), Misfit>
+        requires { HasEnd primitive.now }
+        ensures { result_err result ≡ misfit primitive.now self.now.text }
+    {
+        kte_text::fits(self, primitive)
+    }
+
+    /// Makes the buffer ready for a primitive. After an error it is as it was.
+    pub fn reserve(&mut self, primitive: &Primitive) -> Result<(), AllocError>
+        requires fits { misfit primitive.now self.old.text ≡ None }
+        requires changes { is_empty primitive.now ≡ false }
+        ensures ok { OnOk result (IsReadyFor primitive.now self.new) }
+        ensures text { self.new.text ≡ self.old.text }
+        ensures hung { self.new.hung ≡ self.old.hung }
+        ensures err { OnErr result (self.new ≡ self.old) }
+    {
+        rows::reserve(&mut self.rows, &mut self.fresh, primitive)?;
+        self.ready = Ready::ToApply(rows::entry_of(self.rows.as_slice(), primitive));
+        Ok(())
+    }
+
+    /// Makes a primitive, carries every cursor, as KTextEditor's Document and MovingCursor do, and tells what is to be
+    /// kept of it. The buffer is then ready for moving cursors to the lines that the primitive touched.
+    pub fn apply(&mut self, primitive: &Primitive) -> Entry
+        requires ready { IsReadyFor primitive.now self.old }
+        requires columns { ColumnsFit self.old.hung }
+        ensures entry { result ≡ entry primitive.now self.old.text }
+        ensures text { self.new.text ≡ after primitive.now self.old.text }
+        ensures hung { (id : ℕ)
+            → map.get self.new.hung id ≡ option_map (carried result) (map.get self.old.hung id) }
+        ensures ready { self.new.ready ≡ Ready.ToRehome result }
+    {
+        let entry = rows::entry_of(self.rows.as_slice(), primitive);
+        rows::make(&mut self.rows, &mut self.fresh, primitive);
+        self.size = rows::size_after(self.size, primitive);
+        cursors::carry(&mut self.cursors, &entry);
+        self.ready = Ready::ToRehome(entry);
+        entry
+    }
+
+    /// Hangs a cursor on a line that is there, at a column of it or beyond its end, and answers the cursor's number. No
+    /// other cursor that hangs has it, and one that was taken out may have had it. After an error the buffer is as it was.
+    pub fn hang(&mut self, place: Place, on_insert: OnInsert) -> Result<u64, AllocError>
+        requires line { place.line < length self.old.text }
+        requires column { place.column ≤ GREATEST_COLUMN }
+        ensures free { IfOk result (λ id. map.get self.old.hung id ≡ None) }
+        ensures hung { IfOk result
+            (λ id. self.new.hung ≡ map.insert self.old.hung id (hanging place on_insert)) }
+        ensures text { self.new.text ≡ self.old.text }
+        ensures ready { OnOk result (self.new.ready ≡ Ready.Nothing) }
+        ensures err { OnErr result (self.new ≡ self.old) }
+    {
+        let id = self.cursors.insert(Cursor { place, on_insert })?;
+        self.ready = Ready::Nothing;
+        Ok(id as u64)
+    }
+
+    /// A copy of the text.
+    pub fn copy_text(&self, alloc: Global) -> Result<Text, AllocError>
+        ensures { IfOk result (λ text. text ≡ self.now.text) }
+    {
+        rows::copy_text(alloc, self.rows.as_slice())
+    }
+}
+
+impl Lines for Buffer {
+    ghost text = { λ buffer. buffer.text };
+
+    fn lines(&self) -> u32 {
+        self.rows.len() as u32
+    }
+
+    fn line(&self, n: u32) -> &[u16] {
+        self.rows[n as usize].as_slice()
+    }
+
+    fn size(&self) -> u64 {
+        self.size
+    }
+}
+
+impl Cursors for Buffer {
+    ghost use Rattle.std.specs.Prelude.{List, ℕ, IsSome, IsTrue};
+    ghost use Rattle.kte_place.specs.Cursors.{with_place};
+    ghost use Rattle.kte_buffer.specs.Buffer.{is_home};
+
+    ghost hung = { λ buffer. buffer.hung };
+
+    ghost ready = { λ buffer. is_home buffer.ready };
+
+    ghost Rest = { List (List ℕ) };
+
+    ghost rest = { λ buffer. buffer.text };
+
+    fn place(&self, id: u64) -> Place {
+        self.cursors[id as usize].place
+    }
+
+    fn rehome(&mut self, id: u64, place: Place)
+        requires hangs { IsSome (map.get self.old.hung id) }
+        requires line { IsTrue (is_home self.old.ready place.line) }
+        requires column { place.column ≤ GREATEST_COLUMN }
+        ensures cursors { self.new.hung ≡ with_place self.old.hung id place }
+        ensures lines { is_home self.new.ready ≡ is_home self.old.ready }
+        ensures others { self.new.text ≡ self.old.text }
+        ensures ready { self.new.ready ≡ self.old.ready }
+    {
+        self.cursors[id as usize].place = place;
+    }
+
+    fn unhang(&mut self, id: u64)
+        requires { IsSome (map.get self.old.hung id) }
+        ensures cursors { self.new.hung ≡ map.remove self.old.hung id }
+        ensures lines { is_home self.new.ready ≡ is_home self.old.ready }
+        ensures others { self.new.text ≡ self.old.text }
+        ensures ready { self.new.ready ≡ self.old.ready }
+    {
+        self.cursors.remove(id as usize);
+    }
+}
