@@ -1,0 +1,8 @@
+use Rattle.kte_ranges.proofs.Numbers.{unused_number, numbers_push}
+use Rattle.kte_ranges.proofs.table.RangeTable.make.Goals as goal
+
+pub returns-clause-unused : goal.returns-clause-unused
+returns-clause-unused c = rw (← c.self.view_is) (unused_number _ _ c.self.invariant.numbers)
+
+pub returns-clause-ranges : goal.returns-clause-ranges
+returns-clause-ranges c = rw (c.push_reserved.ensures.items, ← c.self.view_is) (numbers_push _ _ _ c.self.invariant.numbers)

@@ -1,0 +1,6 @@
+pub mod Table
+pub mod Cursors
+pub mod Settling
+pub mod Rows
+pub mod Laws
+pub mod Examples

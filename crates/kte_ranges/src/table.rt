@@ -1,0 +1,185 @@
+ghost use Rattle.std.specs.Prelude.{◌≡◌, ℕ, ◌+◌, ◌<◌, ◌≤◌, ◌^◌, Some, None, OnOk, OnErr, IfOk};
+ghost use Rattle.std.specs.Option.{ok_or, option_map};
+ghost use Rattle.std.specs.List.Sorted.{IsStrictlyIncreasing};
+ghost use Rattle.std.specs.FinMap as map;
+ghost use Rattle.kte_ranges.specs.Table.{AllInfos, NumbersBelow, reset};
+ghost use Rattle.kte_ranges.specs.Cursors.{IsFree, CursorsHang, CursorsApart, StartsAreReady, span_of};
+ghost use Rattle.kte_ranges.specs.Settling.{settled_info, settled_span, CursorsFollow};
+
+use crate::info::{Origin, RangeInfo};
+use crate::rows::{position, settle_rows};
+use kte_place::Cursors;
+use std::alloc::{AllocError, Global};
+use std::marker::Model;
+use thiserror::Error;
+
+/// There is no range of this number.
+#[derive(Clone, Copy, Debug, Drop, Error, PartialEq, Eq)]
+#[error("no range {id}")]
+pub struct NoRange {
+    pub id: u64,
+}
+
+/// Ranges, each under a number. Numbers rise from 1, and none is used again.
+///
+/// Contracts see a table as a record: the ranges by their numbers, the number that the next one gets, and how many more
+/// can be made without memory.
+#[derive(Debug, Drop)]
+pub struct RangeTable {
+    /// In the order of the numbers.
+    rows: Vec<(u64, RangeInfo)>,
+    next: u64,
+}
+
+impl Model for RangeTable {
+    ghost use Rattle.std.specs.Prelude.{◌-◌, vec_len};
+    ghost use Rattle.std.specs.Vec.{vec_capacity};
+    ghost use Rattle.std.specs.FinMap as map;
+    ghost use Rattle.kte_ranges.specs.Table.{Table, table_code};
+    ghost use Rattle.kte_ranges.specs.Rows.{RowsFit};
+
+    ghost Value = { Table };
+
+    ghost coded = { table_code };
+
+    ghost view = { λ t. record {
+      ranges = map.from_entries t.rows.items;
+      next = t.next;
+      room = vec_capacity t.rows - vec_len t.rows;
+    } };
+
+    ghost invariant = { λ t. RowsFit t.rows.items t.next };
+}
+
+impl RangeTable {
+    /// A table without ranges. It takes no memory.
+    pub fn new(alloc: Global) -> Self
+        ensures ranges { result.ranges ≡ map.empty }
+        ensures next { result.next ≡ 1 }
+    {
+        RangeTable {
+            rows: Vec::new(alloc),
+            next: 1,
+        }
+    }
+
+    /// Makes room for so many calls of `make`. After an error the ranges are as they were.
+    pub fn reserve(&mut self, ranges: u64) -> Result<(), AllocError>
+        ensures room { OnOk result (ranges ≤ self.new.room) }
+        ensures kept { self.old.room ≤ self.new.room }
+        ensures ranges { self.new.ranges ≡ self.old.ranges }
+        ensures next { self.new.next ≡ self.old.next }
+    {
+        self.rows.reserve(ranges as usize)
+    }
+
+    /// Takes in a range, and answers its number. It takes no memory.
+    pub fn make(&mut self, info: RangeInfo) -> u64
+        requires room { 1 ≤ self.old.room }
+        requires number { self.old.next < 2 ^ 63 }
+        ensures id { result ≡ self.old.next }
+        ensures unused { map.get self.old.ranges self.old.next ≡ None }
+        ensures ranges { self.new.ranges ≡ map.insert self.old.ranges self.old.next info }
+        ensures next { self.new.next ≡ self.old.next + 1 }
+        ensures room { self.new.room + 1 ≡ self.old.room }
+    {
+        let id = self.next;
+        self.rows.push_reserved((id, info));
+        self.next = id + 1;
+        id
+    }
+
+    /// Gives a range another origin and other cursors, and answers the cursors that it had. After an error nothing has
+    /// changed.
+    pub fn set(
+        &mut self,
+        id: u64,
+        origin: Origin,
+        cursors: Option<(u64, u64)>,
+    ) -> Result<Option<(u64, u64)>, NoRange>
+        ensures cursors { result ≡ ok_or
+            (option_map (λ info. info.cursors) (map.get self.old.ranges id)) (record { id = id }) }
+        ensures set { (info : RangeInfo) → map.get self.old.ranges id ≡ Some info →
+            self.new.ranges ≡ map.insert self.old.ranges id (reset info origin cursors) }
+        ensures err { OnErr result (self.new ≡ self.old) }
+        ensures next { self.new.next ≡ self.old.next }
+        ensures room { self.new.room ≡ self.old.room }
+    {
+        let Some(i) = position(self.rows.as_slice(), id) else {
+            return Err(NoRange { id });
+        };
+        let info = &mut self.rows[i].1;
+        let had = info.cursors;
+        info.origin = origin;
+        info.cursors = cursors;
+        Ok(had)
+    }
+
+    /// Takes a range out, and answers the cursors that it had. Its number is not used again. After an error nothing has
+    /// changed.
+    pub fn drop_range(&mut self, id: u64) -> Result<Option<(u64, u64)>, NoRange>
+        ensures cursors { result ≡ ok_or
+            (option_map (λ info. info.cursors) (map.get self.old.ranges id)) (record { id = id }) }
+        ensures ok { OnOk result (self.new.ranges ≡ map.remove self.old.ranges id) }
+        ensures err { OnErr result (self.new ≡ self.old) }
+        ensures next { self.new.next ≡ self.old.next }
+        ensures room { self.old.room ≤ self.new.room }
+    {
+        let Some(i) = position(self.rows.as_slice(), id) else {
+            return Err(NoRange { id });
+        };
+        Ok(self.rows.remove(i).1.cursors)
+    }
+
+    /// Brings every range in order after its cursors have moved: an end before its start goes to the start, and a range
+    /// that becomes invalid loses its cursors, which are taken out. Other cursors stay. It takes no memory.
+    pub fn settle<C: Cursors>(&mut self, cursors: &mut C)
+        requires hang { CursorsHang (C.hung cursors.old) self.old.ranges }
+        requires apart { CursorsApart self.old.ranges }
+        requires ready { StartsAreReady (C.hung cursors.old) (C.ready cursors.old) self.old.ranges }
+        ensures ranges { (id : ℕ) → map.get self.new.ranges id ≡
+            option_map (settled_info (C.hung cursors.old)) (map.get self.old.ranges id) }
+        // Each range stands where it settled to.
+        ensures spans { AllInfos (λ info.
+            span_of (C.hung cursors.new) (settled_info (C.hung cursors.old) info) ≡
+            settled_span (C.hung cursors.old) info) self.old.ranges }
+        ensures cursors { AllInfos
+            (CursorsFollow (C.hung cursors.old) (C.hung cursors.new)) self.old.ranges }
+        ensures others { (n : ℕ) → IsFree self.old.ranges n →
+            map.get (C.hung cursors.new) n ≡ map.get (C.hung cursors.old) n }
+        ensures hang { CursorsHang (C.hung cursors.new) self.new.ranges }
+        ensures apart { CursorsApart self.new.ranges }
+        ensures lines { C.ready cursors.new ≡ C.ready cursors.old }
+        ensures rest { C.rest cursors.new ≡ C.rest cursors.old }
+        ensures next { self.new.next ≡ self.old.next }
+        ensures room { self.new.room ≡ self.old.room }
+    {
+        settle_rows(self.rows.as_mut_slice(), cursors);
+    }
+
+    /// The range of this number.
+    pub fn get(&self, id: u64) -> Option<RangeInfo>
+        ensures { result ≡ map.get self.now.ranges id }
+    {
+        let i = position(self.rows.as_slice(), id)?;
+        Some(self.rows[i].1)
+    }
+
+    /// The numbers of the ranges, rising.
+    pub fn ids(&self, alloc: Global) -> Result<Vec<u64>, AllocError>
+        ensures ids { IfOk result (λ ids. ids.items ≡ map.keys self.now.ranges) }
+        ensures rising { IfOk result (λ ids. IsStrictlyIncreasing ids.items) }
+    {
+        self.rows.iter().map(|row| row.0).collect(alloc)
+    }
+
+    /// The number that the next range gets. It is above every number in use.
+    pub fn next_id(&self) -> u64
+        ensures next { result ≡ self.now.next }
+        ensures first { 1 ≤ self.now.next }
+        ensures bound { self.now.next ≤ 2 ^ 63 }
+        ensures numbers { NumbersBelow self.now.next self.now.ranges }
+    {
+        self.next
+    }
+}
