@@ -1,0 +1,11 @@
+pub mod Crossing
+pub mod Growth
+pub mod Maps
+pub mod Trails
+pub mod OneRange
+pub mod Hanging
+pub mod Swapped
+pub mod Settled
+pub mod Calls
+pub mod Looks
+pub mod Beginning

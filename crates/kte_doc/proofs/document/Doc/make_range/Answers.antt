@@ -1,0 +1,53 @@
+use Rattle.std.proofs.Common.{◌≡◌, ℕ, ◌+◌, ◌≤◌, List, length, ◌∙◌, ap, sym, subst, arith}
+use Rattle.std.specs.FinMap.{insert}
+use Rattle.kte_ranges.specs.declared.info.RangeInfo.{RangeInfo}
+use Rattle.kte_doc.specs.Standings.{new_range}
+use Rattle.kte_doc.specs.Inside.{standings_of, farthest_at, CursorsFit}
+use Rattle.kte_doc.proofs.Calls.{IsPut-make}
+use Rattle.kte_doc.proofs.Trails.{CameBy-make}
+use Rattle.kte_doc.proofs.document.Doc.make_range.Goals as goal
+
+pub invariant_of-self-2 : goal.invariant_of-self-2
+invariant_of-self-2 c =
+    let info : RangeInfo = record {
+      expand = c.args.expand;
+      empty = c.args.empty;
+      kind = c.args.kind;
+      origin = record { revision = c.self.inside.revision; span = c.args.span };
+      cursors = c.in_ok-cursors.cursors;
+    } in
+    let put = IsPut-make _ _ _ _ _ _ (farthest_at c.self.inside.revision) _ info c.args.span c.self.invariant.cursors c.reserve.ensures.ranges
+    c.make.ensures.unused c.make.ensures.ranges c.requires.span (omega arith) c.in_ok-cursors.ensures.cursors in
+    record {
+      within = c.self.invariant.within;
+      small = c.self.invariant.small;
+      cursors = subst (λ (text : List (List ℕ)). CursorsFit c.hang.new.buffer.hung c.make.new.self.ranges (length text) (farthest_at c.self.inside.revision))
+          (sym c.hang.ensures.text) put.fits;
+    }
+
+ranges : goal.returns-clause-ranges
+ranges c =
+    let info : RangeInfo = record {
+      expand = c.args.expand;
+      empty = c.args.empty;
+      kind = c.args.kind;
+      origin = record { revision = c.self.inside.revision; span = c.args.span };
+      cursors = c.in_ok-cursors.cursors;
+    } in
+    let put = IsPut-make _ _ _ _ _ _ (farthest_at c.self.inside.revision) _ info c.args.span c.self.invariant.cursors c.reserve.ensures.ranges
+    c.make.ensures.unused c.make.ensures.ranges c.requires.span (omega arith) c.in_ok-cursors.ensures.cursors in
+    let new = new_range c.self.inside.buffer.text c.self.inside.revision c.args.span c.args.expand c.args.empty c.args.kind in
+    put.seen
+    ∙ ap (λ next. insert (standings_of c.self.inside.buffer.hung c.self.inside.ranges.ranges) next new) c.reserve.ensures.next
+    ∙ ap (λ d. insert d.ranges d.next (new_range d.text d.revision c.args.span c.args.expand c.args.empty c.args.kind)) c.self.view_is
+
+pub returns-clause-ranges : goal.returns-clause-ranges
+returns-clause-ranges c = ranges c
+
+pub returns-clause-came : goal.returns-clause-came
+returns-clause-came c loaded trail came =
+    CameBy-make loaded trail c.args.self.now _ c.args.span c.args.expand c.args.empty c.args.kind came
+    (c.hang.ensures.text ∙ ap (λ d. d.text) c.self.view_is)
+    (ap (λ d. d.revision) c.self.view_is)
+    (c.make.ensures.next ∙ ap (λ n. n + 1) (c.reserve.ensures.next ∙ ap (λ d. d.next) c.self.view_is))
+    (ranges c)

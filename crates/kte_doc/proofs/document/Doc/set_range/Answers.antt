@@ -1,0 +1,69 @@
+use Rattle.std.proofs.Common.{◌≡◌, ℕ, ◌≤◌, List, length, Option, None, Some, ◌∙◌, ap, sym, subst, refl, arith}
+use Rattle.std.specs.Option.{option_map}
+use Rattle.std.specs.FinMap.{get, insert}
+use Rattle.kte_ranges.specs.declared.info.RangeInfo.{RangeInfo}
+use Rattle.kte_ranges.specs.Table.{reset}
+use Rattle.kte_doc.specs.Standings.{Standing, Standings, new_range, reset_to}
+use Rattle.kte_doc.specs.Inside.{standing_of, standings_of, farthest_at, CursorsFit}
+use Rattle.kte_doc.proofs.Calls.{hangs_of, still_hangs, IsPut-set}
+use Rattle.kte_doc.proofs.Looks.{seen_none, seen_is, seen_same}
+use Rattle.kte_doc.proofs.Trails.{CameBy-set}
+use Rattle.kte_doc.proofs.document.Doc.set_range.Goals as goal
+
+pub returns-in_default-clause-no_range : goal.returns-in_default-clause-no_range
+returns-in_default-clause-no_range c n is =
+    (cc, seen_none _ _ _ c.args.id (ap (λ d. d.ranges) c.self.view_is) (sym c.get.ensures ∙ c.in_default.is))
+
+pub returns-in_default-hang-clause-none : goal.returns-in_default-hang-clause-none
+returns-in_default-hang-clause-none c none =
+    let some = seen_is _ _ _ c.args.id c.in-Some.info (ap (λ d. d.ranges) c.self.view_is) (sym c.get.ensures ∙ c.in-Some.is) in
+    absurd (cc)
+
+pub unhang-requires-clause-hang : goal.unhang-requires-clause-hang
+unhang-requires-clause-hang c n held =
+    still_hangs _ _ _ _ _ c.in-Ok.ensures.cursors n
+    (hangs_of _ _ _ _ c.args.id c.in-Some.info c.self.invariant.cursors (sym c.get.ensures ∙ c.in-Some.is) n held)
+
+pub invariant_of-self-2 : goal.invariant_of-self-2
+invariant_of-self-2 c =
+    let there = sym c.get.ensures ∙ c.in-Some.is in
+    let info : RangeInfo = reset c.in-Some.info (record { revision = c.self.inside.revision; span = c.args.span }) c.in-Ok.cursors in
+    let put = IsPut-set _ _ _ _ _ _ (farthest_at c.self.inside.revision) c.args.id c.in-Some.info info c.args.span c.self.invariant.cursors there
+    (c.set.ensures.set c.in-Some.info there) c.unhang.ensures.hung c.requires (omega arith) c.in-Ok.ensures.cursors in
+    record {
+      within = c.self.invariant.within;
+      small = c.self.invariant.small;
+      cursors = subst (λ (text : List (List ℕ)). CursorsFit c.unhang.new.buffer.hung c.set.new.self.ranges (length text) (farthest_at c.self.inside.revision))
+          (sym (c.unhang.ensures.text ∙ c.in-Ok.ensures.text)) put.fits;
+    }
+
+ranges : goal.returns-clause-ranges
+ranges c range is =
+    let there = sym c.get.ensures ∙ c.in-Some.is in
+    let info : RangeInfo = reset c.in-Some.info (record { revision = c.self.inside.revision; span = c.args.span }) c.in-Ok.cursors in
+    let put = IsPut-set _ _ _ _ _ _ (farthest_at c.self.inside.revision) c.args.id c.in-Some.info info c.args.span c.self.invariant.cursors there
+    (c.set.ensures.set c.in-Some.info there) c.unhang.ensures.hung c.requires (omega arith) c.in-Ok.ensures.cursors in
+    let same : standing_of c.self.inside.buffer.hung c.in-Some.info ≡ range =
+    seen_same _ _ _ c.args.id c.in-Some.info range (ap (λ d. d.ranges) c.self.view_is) there is in
+    put.seen
+    ∙ ap (λ (r : Standing). insert (standings_of c.self.inside.buffer.hung c.self.inside.ranges.ranges) c.args.id
+    (reset_to c.self.inside.buffer.text c.self.inside.revision c.args.span r)) same
+    ∙ ap (λ d. insert d.ranges c.args.id (reset_to d.text d.revision c.args.span range)) c.self.view_is
+
+pub returns-clause-ranges : goal.returns-clause-ranges
+returns-clause-ranges c = ranges c
+
+pub returns-clause-came : goal.returns-clause-came
+returns-clause-came c loaded trail came =
+    let there = sym c.get.ensures ∙ c.in-Some.is in
+    let is = seen_is _ _ _ c.args.id c.in-Some.info (ap (λ d. d.ranges) c.self.view_is) there in
+    CameBy-set loaded trail c.args.self.now _ c.args.id c.args.span _ came is
+    (c.unhang.ensures.text ∙ c.in-Ok.ensures.text ∙ ap (λ d. d.text) c.self.view_is)
+    (ap (λ d. d.revision) c.self.view_is)
+    (c.set.ensures.next ∙ ap (λ d. d.next) c.self.view_is)
+    (ranges c _ is)
+
+pub returns-clause-none : goal.returns-clause-none
+returns-clause-none c none =
+    let some = seen_is _ _ _ c.args.id c.in-Some.info (ap (λ d. d.ranges) c.self.view_is) (sym c.get.ensures ∙ c.in-Some.is) in
+    absurd (cc)

@@ -1,0 +1,48 @@
+-- A document: a text, its ranges, and how many primitives have changed it since it was loaded.
+use Rattle.std.specs.Prelude.{◌≡◌, ℕ, ◌<◌, ◌≤◌, List, length, IsSome, refl}
+use Rattle.std.specs.FinMap.{get}
+use Rattle.std.specs.Coded.{Coded, code_by, coded×, coded_list, coded_ℕ}
+use Rattle.kte_text.specs.Primitives.{after_all}
+use Rattle.kte_text.specs.declared.primitive.Primitive.{Primitive}
+use Rattle.kte_doc.specs.Standings.{Standing, Standings, AllStandings, standings_code}
+use Rattle.kte_doc.specs.Trail.{stand}
+
+-- what a `Doc` holds
+pub record Document : Type 0 where
+  -- the present text
+  pub text : List (List ℕ)
+  -- how many primitives have been made since loading
+  pub revision : ℕ
+  -- how many may be made
+  pub limit : ℕ
+  -- the ranges by their numbers
+  pub ranges : Standings
+  -- the number that the next range gets
+  pub next : ℕ
+
+-- the range was made or last set at a revision of the trail, and stands where the trail puts it
+pub record StandsBy (loaded : List (List ℕ)) (trail : List Primitive) (standing : Standing) : Type 0 where
+  pub origin : standing.origin.revision ≤ length trail
+  pub span : standing.span ≡ stand loaded trail standing.expand standing.empty standing.origin
+
+-- every number in use is at least 1 and below the next one
+abbrev pub NumbersBelow : ℕ → Standings → Type 0
+NumbersBelow next ranges = (id : ℕ) → IsSome (get ranges id) → (1 ≤ id) × (id < next)
+
+-- The document came from the loaded text by the primitives of the trail, one after another: that is its text, and every range stands
+-- where the trail puts it
+pub record CameBy (loaded : List (List ℕ)) (trail : List Primitive) (document : Document) : Type 0 where
+  pub text : document.text ≡ after_all trail loaded
+  pub revision : document.revision ≡ length trail
+  pub ranges : AllStandings (StandsBy loaded trail) document.ranges
+  pub first : 1 ≤ document.next
+  pub numbers : NumbersBelow document.next document.ranges
+
+-- a document is stored as the tuple of its fields
+abbrev pub document_code : Coded Document
+document_code =
+    code_by (List (List ℕ) × (ℕ × (ℕ × (Standings × ℕ))))
+    (coded× (coded_list (coded_list coded_ℕ)) (coded× coded_ℕ (coded× coded_ℕ (coded× standings_code coded_ℕ))))
+    (λ d. (d.text, (d.revision, (d.limit, (d.ranges, d.next)))))
+    (λ t. record { text = t.0; revision = t.1.0; limit = t.1.1.0; ranges = t.1.1.1.0; next = t.1.1.1.1 })
+    (λ _. refl)

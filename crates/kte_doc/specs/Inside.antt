@@ -1,0 +1,71 @@
+-- How a document keeps what contracts see of it.
+use Rattle.std.specs.Prelude.{◌≡◌, ℕ, ◌+◌, ◌*◌, ◌^◌, ◌<◌, ◌≤◌, List, length, map, IsSome, IsTrue, Option, None, Some}
+use Rattle.std.specs.FinMap.{get, entries, from_sorted}
+use Rattle.kte_place.specs.declared.place.Place.{Place}
+use Rattle.kte_place.specs.declared.span.Expand.{Expand}
+use Rattle.kte_place.specs.Ends.{Ends}
+use Rattle.kte_place.specs.Place.{is_at_or_before}
+use Rattle.kte_place.specs.Span.{start_on, end_on}
+use Rattle.kte_buffer.specs.Cursors.{hanging}
+use Rattle.kte_text.specs.declared.TheConstants.{GREATEST_SIZE}
+use Rattle.kte_ranges.specs.declared.info.RangeInfo.{RangeInfo}
+use Rattle.kte_ranges.specs.Table.{Ranges}
+use Rattle.kte_ranges.specs.Cursors.{Hung, span_of, holds_cursor, CursorsApart}
+use Rattle.kte_doc.specs.Standings.{Standing, Standings}
+use Rattle.kte_doc.specs.Documents.{Document}
+use Rattle.kte_doc.specs.declared.document.TheConstants.{FARTHEST}
+use Rattle.kte_doc.specs.declared.document.Doc.TheInside.{Inside}
+
+-- a range as its cursors hang
+abbrev pub standing_of : Hung → RangeInfo → Standing
+standing_of hung info = record {
+  expand = info.expand;
+  empty = info.empty;
+  kind = info.kind;
+  origin = info.origin;
+  span = span_of hung info;
+}
+
+-- all ranges as their cursors hang
+abbrev pub standings_of : Hung → Ranges → Standings
+standings_of hung ranges = from_sorted (map (λ e. (e.0, standing_of hung e.1)) (entries ranges))
+
+abbrev pub document_of : Inside → Document
+document_of doc = record {
+  text = doc.buffer.text;
+  revision = doc.revision;
+  limit = doc.limit;
+  ranges = standings_of doc.buffer.hung doc.ranges.ranges;
+  next = doc.ranges.next;
+}
+
+-- the greatest column at a revision: each primitive moves a place by at most the greatest size
+abbrev pub farthest_at : ℕ → ℕ
+farthest_at revision = FARTHEST + revision * GREATEST_SIZE
+
+-- a place in a text of so many lines, at no greater column
+pub record IsWithin (lines farthest : ℕ) (place : Place) : Type 0 where
+  pub line : place.line < lines
+  pub column : place.column ≤ farthest
+
+-- the two cursors of a range hang at the ends of a span of the text, and do at an insertion what the ends do
+pub record HangAt (hung : Hung) (lines farthest : ℕ) (expand : Expand) (cursors : ℕ × ℕ) (span : Ends) : Type 0 where
+  pub start : get hung cursors.0 ≡ Some (hanging span.start (start_on expand))
+  pub end : get hung cursors.1 ≡ Some (hanging span.end (end_on expand))
+  pub ordered : IsTrue (is_at_or_before span.start span.end)
+  pub start_within : IsWithin lines farthest span.start
+  pub end_within : IsWithin lines farthest span.end
+
+-- the cursors that hang are those of the ranges, no cursor is held twice, and each range's hang at a span
+pub record CursorsFit (hung : Hung) (ranges : Ranges) (lines farthest : ℕ) : Type 0 where
+  pub apart : CursorsApart ranges
+  pub hang : (id : ℕ) (info : RangeInfo) (cursors : ℕ × ℕ) → get ranges id ≡ Some info → info.cursors ≡ Some cursors
+      → (span : Ends) × HangAt hung lines farthest info.expand cursors span
+  pub held : (n : ℕ) → IsSome (get hung n)
+      → (id : ℕ) × ((info : RangeInfo) × ((get ranges id ≡ Some info) × IsTrue (holds_cursor info n)))
+
+-- no more primitives were made than may be, and the cursors are those of the ranges
+pub record IsSound (doc : Inside) : Type 0 where
+  pub within : doc.revision ≤ doc.limit
+  pub small : doc.limit ≤ 2 ^ 31
+  pub cursors : CursorsFit doc.buffer.hung doc.ranges.ranges (length doc.buffer.text) (farthest_at doc.revision)

@@ -1,0 +1,91 @@
+//! The two cursors of a range.
+ghost use Rattle.std.specs.Prelude.{◌≡◌, ◌≢◌, ℕ, ◌<◌, length, None, Some, IfOk, OnErr, IsTrue, IsSome, if◌then◌else◌};
+ghost use Rattle.std.specs.FinMap as map;
+ghost use Rattle.kte_place.specs.Span.{made, start_on, end_on};
+ghost use Rattle.kte_ranges.specs.Cursors.{is_among};
+ghost use Rattle.kte_doc.specs.Standings.{SpanIsInReach};
+ghost use Rattle.kte_doc.specs.Hanging.{HangsNew, HungAt};
+
+use kte_buffer::Buffer;
+use kte_place::{Cursors, Empty, Expand, OnInsert, Span, settle};
+use kte_text::Lines;
+use std::alloc::AllocError;
+
+/// HangsNew the cursors of a range that is made at a span of the buffer's text; none where it is invalid. After an error the
+/// cursors are as they were.
+pub(crate) fn hang(
+    buffer: &mut Buffer,
+    span: Span,
+    expand: Expand,
+    empty: Empty,
+) -> Result<Option<(u64, u64)>, AllocError>
+    requires { SpanIsInReach span }
+    ensures cursors { IfOk result (λ cursors. HangsNew buffer.old.hung buffer.new.hung expand cursors
+        (made (length buffer.old.text) span empty)) }
+    ensures text { buffer.new.text ≡ buffer.old.text }
+    ensures err { OnErr result (buffer.new.hung ≡ buffer.old.hung) }
+{
+    let lines = buffer.lines();
+    if span.start.line >= lines || span.end.line >= lines {
+        return Ok(None);
+    }
+    match settle(span.start, span.end, empty) {
+        None => Ok(None),
+        Some(span) => hang_both(buffer, span, expand).map(Some),
+    }
+}
+
+/// HangsNew two cursors at the ends of a span.
+fn hang_both(buffer: &mut Buffer, span: Span, expand: Expand) -> Result<(u64, u64), AllocError>
+    requires reach { SpanIsInReach span }
+    requires start { span.start.line < length buffer.old.text }
+    requires end { span.end.line < length buffer.old.text }
+    ensures cursors { IfOk result (λ cursors. HungAt buffer.old.hung buffer.new.hung expand cursors span) }
+    ensures text { buffer.new.text ≡ buffer.old.text }
+    ensures err { OnErr result (buffer.new.hung ≡ buffer.old.hung) }
+{
+    let start = buffer.hang(span.start, start_on(expand))?;
+    match buffer.hang(span.end, end_on(expand)) {
+        Ok(end) => Ok((start, end)),
+        Err(error) => {
+            buffer.unhang(start);
+            Err(error)
+        }
+    }
+}
+
+/// Takes the two cursors of a range out, if it has any.
+pub(crate) fn unhang(buffer: &mut Buffer, cursors: Option<(u64, u64)>)
+    requires hang { (n : ℕ) → IsTrue (is_among cursors n) → IsSome (map.get buffer.old.hung n) }
+    requires two { (c : _) → cursors ≡ Some c → c.0 ≢ c.1 }
+    ensures hung { (n : ℕ) → map.get buffer.new.hung n
+        ≡ (if is_among cursors n then None else map.get buffer.old.hung n) }
+    ensures text { buffer.new.text ≡ buffer.old.text }
+{
+    if let Some((start, end)) = cursors {
+        buffer.unhang(start);
+        buffer.unhang(end);
+    }
+}
+
+/// What the start of a range does at an insertion right at it.
+fn start_on(expand: Expand) -> OnInsert
+    ensures { result ≡ start_on expand }
+{
+    if expand.left {
+        OnInsert::Stay
+    } else {
+        OnInsert::Move
+    }
+}
+
+/// What the end of a range does at an insertion right at it.
+fn end_on(expand: Expand) -> OnInsert
+    ensures { result ≡ end_on expand }
+{
+    if expand.right {
+        OnInsert::Move
+    } else {
+        OnInsert::Stay
+    }
+}

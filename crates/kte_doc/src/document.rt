@@ -1,0 +1,285 @@
+ghost use Rattle.std.specs.Prelude.{◌≡◌, ℕ, ◌+◌, ◌^◌, ◌<◌, ◌≤◌, [], ◌∷◌, ◌++◌, false, length, None, Some, Err, IfSome, IfOk, OnOk, OnErr, IsErrOf};
+ghost use Rattle.std.specs.Option.{ok_or, option_map};
+ghost use Rattle.std.specs.List.Sorted.{IsStrictlyIncreasing};
+ghost use Rattle.std.specs.FinMap as map;
+ghost use Rattle.kte_text.specs.Primitives.{HasEnd, is_empty, misfit, after};
+ghost use Rattle.kte_buffer.specs.Entries.{entry};
+ghost use Rattle.kte_doc.specs.Standings.{SpanIsInReach, Tells, new_range, reset_to, moved_over};
+ghost use Rattle.kte_doc.specs.Documents.{CameBy, NumbersBelow};
+
+use crate::cursors::{hang, unhang};
+use crate::fault::{DocFault, SetFault};
+use kte_buffer::Buffer;
+use kte_place::{Cursors, Empty, Entry, Expand, Span, Spanned};
+use kte_ranges::{NoRange, Origin, RangeInfo, RangeKind, RangeTable};
+use kte_text::{Lines, Primitive, Text};
+use std::alloc::{AllocError, Global};
+use std::marker::Model;
+
+/// The greatest line and the greatest column of a span of which a range is made.
+pub const FARTHEST: u64 = 1 << 30;
+
+/// A document.
+///
+/// Contracts see it as its text, its ranges by their numbers, the number that the next range gets, how many primitives
+/// have been made since loading, and how many may be. `CameBy` says that it came from a loaded text by a list of
+/// primitives: then each range stands where they put it. Every call keeps that.
+#[derive(Drop)]
+pub struct Doc {
+    buffer: Buffer,
+    ranges: RangeTable,
+    // How many primitives have been made.
+    revision: u64,
+    // How many may be made.
+    limit: u64,
+}
+
+impl Model for Doc {
+    ghost use Rattle.kte_doc.specs.Documents.{Document, document_code};
+
+    ghost Value = { Document };
+
+    ghost coded = { document_code };
+
+    ghost use Rattle.kte_doc.specs.Inside.{document_of, IsSound};
+
+    ghost view = { document_of };
+
+    ghost invariant = { IsSound };
+}
+
+impl Doc {
+    /// The document of a loaded text, at revision 0 and without ranges. At most `limit` primitives can be made.
+    pub fn new(alloc: Global, text: Text, limit: u64) -> Result<Doc, AllocError>
+        requires { limit ≤ 2 ^ 31 }
+        ensures text { IfOk result (λ doc. doc.text ≡ text) }
+        ensures revision { IfOk result (λ doc. doc.revision ≡ 0) }
+        ensures limit { IfOk result (λ doc. doc.limit ≡ limit) }
+        ensures ranges { IfOk result (λ doc. doc.ranges ≡ map.empty) }
+        ensures next { IfOk result (λ doc. doc.next ≡ 1) }
+        ensures came { IfOk result (CameBy text []) }
+    {
+        Ok(Doc {
+            buffer: Buffer::new(alloc, text)?,
+            ranges: RangeTable::new(alloc),
+            revision: 0,
+            limit,
+        })
+    }
+
+    /// Makes a primitive, which is one revision more, and answers its entry. Every range is carried over it and settled.
+    /// After an error nothing has changed.
+    pub fn primitive(&mut self, primitive: &Primitive) -> Result<Entry, DocFault>
+        requires end { HasEnd primitive.now }
+        requires some { is_empty primitive.now ≡ false }
+        ensures fits { OnOk result (misfit primitive.now self.old.text ≡ None) }
+        ensures room { OnOk result (self.old.revision < self.old.limit) }
+        ensures entry { IfOk result (λ made. made ≡ entry primitive.now self.old.text) }
+        ensures text { OnOk result (self.new.text ≡ after primitive.now self.old.text) }
+        ensures revision { OnOk result (self.new.revision ≡ self.old.revision + 1) }
+        ensures limit { self.new.limit ≡ self.old.limit }
+        ensures ranges { OnOk result ((id : ℕ) → map.get self.new.ranges id
+            ≡ option_map (moved_over (entry primitive.now self.old.text)) (map.get self.old.ranges id)) }
+        ensures next { self.new.next ≡ self.old.next }
+        ensures came { (loaded trail : _) → CameBy loaded trail self.old
+            → OnOk result (CameBy loaded (trail ++ primitive.now ∷ []) self.new) }
+
+        ensures misfit { (m : _) → IsErrOf result (DocFault.Misfit m)
+            → misfit primitive.now self.old.text ≡ Some m }
+        ensures full { (r : _) → IsErrOf result (DocFault.RevisionsFull r)
+            → (misfit primitive.now self.old.text ≡ None)
+            × (r ≡ self.old.revision) × (self.old.limit ≤ self.old.revision) }
+        ensures err { OnErr result (self.new ≡ self.old) }
+    {
+        if let Err(misfit) = self.buffer.fits(primitive) {
+            return Err(DocFault::Misfit(misfit));
+        }
+        if self.revision >= self.limit {
+            return Err(DocFault::RevisionsFull {
+                revision: self.revision,
+            });
+        }
+        if self.buffer.reserve(primitive).is_err() {
+            return Err(DocFault::NoMemory);
+        }
+        let entry = self.buffer.apply(primitive);
+        self.ranges.settle(&mut self.buffer);
+        self.revision += 1;
+        Ok(entry)
+    }
+
+    /// Makes a range at a span of the present text, and answers its number. It is invalid at once where a line of the span
+    /// is not in the text, or where it is empty and may not be. After an error nothing has changed, the next number
+    /// included.
+    pub fn make_range(
+        &mut self,
+        span: Span,
+        expand: Expand,
+        empty: Empty,
+        kind: RangeKind,
+    ) -> Result<u64, AllocError>
+        requires span { SpanIsInReach span }
+        requires number { self.old.next < 2 ^ 63 }
+        ensures id { IfOk result (λ id. id ≡ self.old.next) }
+        ensures ranges { OnOk result (self.new.ranges ≡ map.insert self.old.ranges self.old.next
+            (new_range self.old.text self.old.revision span expand empty kind)) }
+        ensures next { OnOk result (self.new.next ≡ self.old.next + 1) }
+        ensures text { self.new.text ≡ self.old.text }
+        ensures revision { self.new.revision ≡ self.old.revision }
+        ensures limit { self.new.limit ≡ self.old.limit }
+        ensures came { (loaded trail : _) → CameBy loaded trail self.old → CameBy loaded trail self.new }
+        ensures err { OnErr result (self.new ≡ self.old) }
+    {
+        self.ranges.reserve(1)?;
+        let cursors = hang(&mut self.buffer, span, expand, empty)?;
+        let origin = Origin {
+            revision: self.revision,
+            span,
+        };
+        let info = RangeInfo {
+            expand,
+            empty,
+            kind,
+            origin,
+            cursors,
+        };
+        Ok(self.ranges.make(info))
+    }
+
+    /// Sets a range to a span of the present text: it stands there as if it were made now, and keeps what it does at a
+    /// change and whose it is. After an error nothing has changed.
+    pub fn set_range(&mut self, id: u64, span: Span) -> Result<(), SetFault>
+        requires { SpanIsInReach span }
+        ensures ranges { OnOk result ((range : _) → map.get self.old.ranges id ≡ Some range
+            → self.new.ranges ≡ map.insert self.old.ranges id
+            (reset_to self.old.text self.old.revision span range)) }
+        ensures next { self.new.next ≡ self.old.next }
+        ensures text { self.new.text ≡ self.old.text }
+        ensures revision { self.new.revision ≡ self.old.revision }
+        ensures limit { self.new.limit ≡ self.old.limit }
+        ensures came { (loaded trail : _) → CameBy loaded trail self.old → CameBy loaded trail self.new }
+
+        ensures none { map.get self.old.ranges id ≡ None → result ≡ Err (SetFault.NoRange id) }
+        ensures no_range { (n : _) → IsErrOf result (SetFault.NoRange n)
+            → (n ≡ id) × (map.get self.old.ranges id ≡ None) }
+        ensures err { OnErr result (self.new ≡ self.old) }
+    {
+        let Some(info) = self.ranges.get(id) else {
+            return Err(SetFault::NoRange { id });
+        };
+        let Ok(cursors) = hang(&mut self.buffer, span, info.expand, info.empty) else {
+            return Err(SetFault::NoMemory);
+        };
+        let origin = Origin {
+            revision: self.revision,
+            span,
+        };
+        let _ = self.ranges.set(id, origin, cursors);
+        unhang(&mut self.buffer, info.cursors);
+        Ok(())
+    }
+
+    /// Where a range stands. `None` is an invalid range. Its columns may be beyond the ends of their lines.
+    pub fn range(&self, id: u64) -> Result<Option<Span>, NoRange>
+        ensures span { result ≡ ok_or (option_map (λ range. range.span) (map.get self.now.ranges id))
+            (record { id = id }) }
+        ensures lines { IfOk result (λ span. IfSome span
+            (λ s. (s.start.line < length self.now.text) × (s.end.line < length self.now.text))) }
+    {
+        let Some(info) = self.ranges.get(id) else {
+            return Err(NoRange { id });
+        };
+        let Some((start, end)) = info.cursors else {
+            return Ok(None);
+        };
+        let (start, end) = (self.buffer.place(start), self.buffer.place(end));
+        Ok(Some(Span { start, end }))
+    }
+
+    /// Takes a range out. Its number is not used again. After an error nothing has changed.
+    pub fn drop_range(&mut self, id: u64) -> Result<(), NoRange>
+        ensures found { result ≡ ok_or (option_map (λ range. tt) (map.get self.old.ranges id))
+            (record { id = id }) }
+        ensures ranges { OnOk result (self.new.ranges ≡ map.remove self.old.ranges id) }
+        ensures next { self.new.next ≡ self.old.next }
+        ensures text { self.new.text ≡ self.old.text }
+        ensures revision { self.new.revision ≡ self.old.revision }
+        ensures limit { self.new.limit ≡ self.old.limit }
+        ensures came { (loaded trail : _) → CameBy loaded trail self.old → CameBy loaded trail self.new }
+        ensures err { OnErr result (self.new ≡ self.old) }
+    {
+        let cursors = self.ranges.drop_range(id)?;
+        unhang(&mut self.buffer, cursors);
+        Ok(())
+    }
+
+    /// What a range is. Its cursors are there exactly where it is not invalid; their numbers have no meaning outside.
+    pub fn info(&self, id: u64) -> Option<RangeInfo>
+        ensures { Tells (map.get self.now.ranges id) result }
+    {
+        self.ranges.get(id)
+    }
+
+    /// The numbers of the ranges, rising.
+    pub fn range_ids(&self, alloc: Global) -> Result<Vec<u64>, AllocError>
+        ensures ids { IfOk result (λ ids. ids.items ≡ map.keys self.now.ranges) }
+        ensures rising { IfOk result (λ ids. IsStrictlyIncreasing ids.items) }
+    {
+        self.ranges.ids(alloc)
+    }
+
+    /// The number that the next range gets. It is above every number in use.
+    pub fn next_id(&self) -> u64
+        ensures next { result ≡ self.now.next }
+        ensures first { 1 ≤ self.now.next }
+        ensures bound { self.now.next ≤ 2 ^ 63 }
+        ensures numbers { NumbersBelow self.now.next self.now.ranges }
+    {
+        self.ranges.next_id()
+    }
+
+    /// How many primitives have been made.
+    pub fn revision(&self) -> u64
+        ensures revision { result ≡ self.now.revision }
+        ensures within { self.now.revision ≤ self.now.limit }
+        ensures small { self.now.limit ≤ 2 ^ 31 }
+    {
+        let _limit = self.limit;
+        self.revision
+    }
+
+    /// A copy of the present text.
+    pub fn copy_text(&self, alloc: Global) -> Result<Text, AllocError>
+        ensures { IfOk result (λ text. text ≡ self.now.text) }
+    {
+        self.buffer.copy_text(alloc)
+    }
+}
+
+impl Lines for Doc {
+    ghost use Rattle.std.specs.Prelude.{ℕ};
+
+    ghost text = { λ doc. doc.text };
+
+    fn lines(&self) -> u32 {
+        self.buffer.lines()
+    }
+
+    fn line(&self, n: u32) -> &[u16] {
+        self.buffer.line(n)
+    }
+
+    fn size(&self) -> u64 {
+        self.buffer.size()
+    }
+}
+
+impl Spanned for Doc {
+    ghost use Rattle.kte_doc.specs.Standings.{spans_of};
+
+    ghost spans = { λ doc. spans_of doc.ranges };
+
+    fn span(&self, id: u64) -> Option<Span> {
+        self.range(id).unwrap_or(None)
+    }
+}
