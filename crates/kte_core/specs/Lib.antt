@@ -1,0 +1,5 @@
+pub mod React
+pub mod Replay
+pub mod Requests
+pub mod Holds
+pub mod Rows
