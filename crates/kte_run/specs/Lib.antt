@@ -1,0 +1,6 @@
+pub mod Words
+pub mod Script
+pub mod Output
+pub mod Statuses
+pub mod Run
+pub mod Rows

@@ -1,0 +1,52 @@
+-- What is printed: a line for each reply, and the text. This project's own form.
+use Rattle.std.specs.Prelude.{ℕ, List, [], ◌∷◌, ◌++◌, codes, encode_utf8_all, Option, None, Some}
+use Rattle.std.specs.List.{flat_map}
+use Rattle.std.specs.Fmt.{decimal}
+use Rattle.std.specs.Char.Utf16.{utf16_lossy_chars}
+use Rattle.kte_text.specs.declared.primitive.Misfit.{Misfit as Cause}
+use Rattle.kte_text.specs.declared.primitive.Misfit.TheVariants.{NoLine, NoColumn, SplitsPair, FirstLine, TooLarge}
+use Rattle.kte_place.specs.Ends.{Ends}
+use Rattle.kte_core.specs.declared.reply.Reply.{Reply}
+use Rattle.kte_core.specs.declared.reply.Reply.TheVariants.{Edited, Range, Dropped, Refused}
+use Rattle.kte_core.specs.declared.reply.Refusal.{Refusal}
+use Rattle.kte_core.specs.declared.reply.Refusal.TheVariants.{Misfit, RevisionsFull, NoRange}
+
+-- a number behind a space
+abbrev pub spaced : ℕ → List ℕ
+spaced n = 32 ∷ decimal n
+
+abbrev pub misfit_text : Cause → List ℕ
+misfit_text (NoLine line) = codes "noline" ++ spaced line
+misfit_text (NoColumn line column) = codes "nocolumn" ++ spaced line ++ spaced column
+misfit_text (SplitsPair line column) = codes "splitspair" ++ spaced line ++ spaced column
+misfit_text FirstLine = codes "firstline"
+misfit_text (TooLarge size) = codes "toolarge" ++ spaced size
+
+abbrev pub refusal_text : Refusal → List ℕ
+refusal_text (Misfit cause) = misfit_text cause
+refusal_text (RevisionsFull revision) = codes "revisionsfull" ++ spaced revision
+refusal_text (NoRange id) = codes "norange" ++ spaced id
+
+-- a span, from its start to its end, or `invalid`
+abbrev pub span_text : Option Ends → List ℕ
+span_text None = codes " invalid"
+span_text (Some span) = spaced span.start.line ++ spaced span.start.column ++ spaced span.end.line ++ spaced span.end.column
+
+-- the spelling of a reply
+abbrev pub reply_text : Reply → List ℕ
+reply_text (Edited steps revision depth) = codes "edited" ++ spaced steps ++ spaced revision ++ spaced depth
+reply_text (Range id span) = codes "range" ++ spaced id ++ span_text span
+reply_text (Dropped id) = codes "dropped" ++ spaced id
+reply_text (Refused refusal) = codes "refused " ++ refusal_text refusal
+
+-- a line of the text: `|`, the line in UTF-8, and LF
+abbrev pub line_text : List ℕ → List ℕ
+line_text units = 124 ∷ encode_utf8_all (utf16_lossy_chars units) ++ 10 ∷ []
+
+-- a reply on a line of its own
+abbrev pub reply_line : Reply → List ℕ
+reply_line reply = reply_text reply ++ 10 ∷ []
+
+-- the whole output: a line for each reply, the line `text`, and the lines of the text
+abbrev pub output_of : List Reply → List (List ℕ) → List ℕ
+output_of replies text = flat_map reply_line replies ++ codes "text" ++ 10 ∷ flat_map line_text text

@@ -1,0 +1,15 @@
+-- The words of the program.
+use Rattle.std.specs.Prelude.{ℕ, List, [], ◌∷◌, codes, Option, Some, None, if◌then◌else◌}
+use Rattle.std.specs.Str.{bytes_eq}
+
+-- a file's name is a word that is not empty; it is word 1, and the last
+abbrev pub file_fault : List (List ℕ) → Option ℕ
+file_fault [] = Some 1
+file_fault ([] ∷ words) = Some 1
+file_fault ((byte ∷ bytes) ∷ []) = None
+file_fault ((byte ∷ bytes) ∷ word ∷ words) = Some 2
+
+-- The first word that does not fit `edit FILE`, counted from 0, or how many there are where one is missing
+abbrev pub words_fault : List (List ℕ) → Option ℕ
+words_fault [] = Some 0
+words_fault (command ∷ words) = if bytes_eq command (codes "edit") then file_fault words else Some 0

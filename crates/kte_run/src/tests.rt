@@ -1,0 +1,323 @@
+ghost use Rattle.std.specs.Prelude.{Some};
+
+use crate::{Status, Word, run};
+use kte_causes::{
+    CalmDisk, CalmSink, CalmSource, DiskCall, DiskPlan, MemDisk, MemSink, MemSource, Sink,
+    SinkFail, read_whole,
+};
+use std::alloc::{AllocError, Global};
+use std::test::Fail;
+
+const FILE: &[u8] = b"hello\n";
+
+const SCRIPT: &[u8] = b"insert 0 5 \"!\"";
+
+const OUTPUT: &[u8] = b"edited 1 1 0\ntext\n|hello!\n|\n";
+
+fn words(alloc: Global, texts: &[&str]) -> Result<Vec<Word>, Fail> {
+    let mut words = Vec::new(alloc);
+    for text in texts {
+        words.push(Word::new(String::from_str(alloc, text)?))?;
+    }
+    Ok(words)
+}
+
+/// The status of a run, where memory did not run out.
+fn ended(status: Status) -> Result<Status, Fail> {
+    match status {
+        Status::NoMemory => Err(AllocError.into()),
+        status => Ok(status),
+    }
+}
+
+/// Runs words over a script and a file in memory. Gives the status and the bytes written.
+fn outcome(
+    rt: &HostRuntime,
+    texts: &[&str],
+    script: &[u8],
+    file: &[u8],
+) -> Result<(Status, Vec<u8>), Fail> {
+    let alloc = rt.alloc();
+    let words = words(alloc, texts)?;
+    let mut source = CalmSource::new(script.to_vec(alloc)?);
+    let mut disk = CalmDisk::new(file.to_vec(alloc)?);
+    let mut sink = CalmSink::new(alloc);
+    let status = run(rt, alloc, &words, &mut source, &mut disk, &mut sink);
+    Ok((ended(status)?, sink.bytes().to_vec(alloc)?))
+}
+
+/// The same for `edit FILE`, with the status's code.
+fn edit(rt: &HostRuntime, script: &[u8], file: &[u8]) -> Result<(u8, Vec<u8>), Fail> {
+    let (status, written) = outcome(rt, &["edit", "file"], script, file)?;
+    Ok((status.code(), written))
+}
+
+#[test]
+fn one_insertion_from_bytes_to_bytes(rt: HostRuntime) -> Result<(), Fail> {
+    let table: [(&[u8], &[u8], u8, &[u8]); 5] = [
+        (FILE, SCRIPT, 0, OUTPUT),
+        (
+            FILE,
+            b"insert 0 6 \"!\"",
+            0,
+            b"refused nocolumn 0 6\ntext\n|hello\n|\n",
+        ),
+        (b"", b"insert 0 0 \"\"", 0, b"edited 0 0 0\ntext\n|\n"),
+        (FILE, b"insert 0 5", 4, b""),
+        (b"\xC3", SCRIPT, 15, b""),
+    ];
+    for (file, script, code, output) in table {
+        let (ended, written) = edit(&rt, script, file)?;
+        assert_eq!(rt; ended, code);
+        assert_eq!(rt; written.as_slice(), output);
+    }
+    Ok(())
+}
+
+#[test]
+fn scripts_of_the_form(rt: HostRuntime) -> Result<(), Fail> {
+    let table: [(&[u8], &[u8]); 9] = [
+        (b"", b"text\n|hello\n|\n"),
+        (
+            b"wrap 0 4\nremove 1 1 1 0",
+            b"edited 1 1 0\nedited 1 2 0\ntext\n|hell\n|\n|\n",
+        ),
+        (
+            b"where 4294967295\n",
+            b"refused norange 4294967295\ntext\n|hello\n|\n",
+        ),
+        (b"insert 0 5 \"!\"\n", OUTPUT),
+        (b"insert 00 005 \"!\"", OUTPUT),
+        (b"insert 0000000000 0000000005 \"!\"", OUTPUT),
+        (b"insert 0 5 \" a\"", b"edited 1 1 0\ntext\n|hello a\n|\n"),
+        (
+            b"insert 0 1073741824 \"!\"",
+            b"refused nocolumn 0 1073741824\ntext\n|hello\n|\n",
+        ),
+        (b"insert 2 0 \"!\"", b"refused noline 2\ntext\n|hello\n|\n"),
+    ];
+    for (script, output) in table {
+        let (ended, written) = edit(&rt, script, FILE)?;
+        assert_eq!(rt; ended, 0);
+        assert_eq!(rt; written.as_slice(), output);
+    }
+    Ok(())
+}
+
+#[test]
+fn scripts_not_of_the_form(rt: HostRuntime) -> Result<(), Fail> {
+    let table: [&[u8]; 29] = [
+        b"\n",
+        b"insert",
+        b"insert 0 5 \"!\"\n\n",
+        b"insert 0 5 \"!\"\ninsert 0 5",
+        b"undo",
+        b"wrap 0",
+        b"unwrap 0 0",
+        b"remove 0 0 1 0",
+        b"range 0 0 0 1 none",
+        b"range 0 0 0 1 some allow",
+        b"range 0 0 0 1 none maybe",
+        b"setrange 1 0 0 0",
+        b"droprange -1",
+        b"where",
+        b"where 4294967296",
+        b"insert 0 5 \"!\"\r\n",
+        b"insert 00000000000 5 \"!\"",
+        b"insert 0 00000000005 \"!\"",
+        b"insert 1073741825 5 \"!\"",
+        b"insert 0 1073741825 \"!\"",
+        b"insert 0 x \"!\"",
+        b"insert 0 5 \"!",
+        b"insert 0 5 \"",
+        b"insert 0 5 \"a\"b\"",
+        b"insert 0 5 \"a\\b\"",
+        b"insert  0 5 \"!\"",
+        b" insert 0 5 \"!\"",
+        b"insert 0 5 \"!\" ",
+        b"insert\t0 5 \"!\"",
+    ];
+    for script in table {
+        let (ended, written) = edit(&rt, script, FILE)?;
+        assert_eq!(rt; ended, 4);
+        assert!(rt; written.is_empty());
+    }
+    Ok(())
+}
+
+#[test]
+fn ranges_move_with_the_text(rt: HostRuntime) -> Result<(), Fail> {
+    let table: [(&[u8], &[u8], &[u8]); 4] = [
+        (
+            b"xabx",
+            b"range 0 1 0 3 none allow\nrange 0 3 0 1 left allow\nrange 0 1 0 3 right allow\n\
+range 0 1 0 3 both allow\ninsert 0 3 \"R\"\ninsert 0 1 \"L\"\nwhere 1\nwhere 2\nwhere 3\nwhere 4\n",
+            b"range 1 0 1 0 3\nrange 2 0 1 0 3\nrange 3 0 1 0 3\nrange 4 0 1 0 3\n\
+edited 1 1 0\nedited 1 2 0\n\
+range 1 0 2 0 4\nrange 2 0 1 0 4\nrange 3 0 2 0 5\nrange 4 0 1 0 5\ntext\n|xLabRx\n",
+        ),
+        (
+            b"abcd",
+            b"range 0 2 0 2 none allow\ninsert 0 2 \"xyz\"\nwhere 1\n",
+            b"range 1 0 2 0 2\nedited 1 1 0\nrange 1 0 5 0 5\ntext\n|abxyzcd\n",
+        ),
+        (
+            b"abc\nde",
+            b"range 0 10 1 2 none allow\nrange 0 10 1 2 none void\nunwrap 1\nwhere 1\nwhere 2\n",
+            b"range 1 0 10 1 2\nrange 2 0 10 1 2\nedited 1 1 0\nrange 1 0 10 0 10\n\
+range 2 invalid\ntext\n|abcde\n",
+        ),
+        (
+            b"abc",
+            b"range 0 0 0 1 none void\nsetrange 1 0 1 0 3\ndroprange 1\nwhere 1\n",
+            b"range 1 0 0 0 1\nrange 1 0 1 0 3\ndropped 1\nrefused norange 1\ntext\n|abc\n",
+        ),
+    ];
+    for (file, script, output) in table {
+        let (ended, written) = edit(&rt, script, file)?;
+        assert_eq!(rt; ended, 0);
+        assert_eq!(rt; written.as_slice(), output);
+    }
+    Ok(())
+}
+
+/// A script that inserts so many letters into line 0. It has 13 bytes more.
+fn script_of_letters(alloc: Global, letters: usize) -> Result<Vec<u8>, Fail> {
+    let mut script = b"insert 0 0 \"".to_vec(alloc)?;
+    script.extend_from_slice(&vec![in alloc; b'a'; letters]?)?;
+    script.push(b'"')?;
+    Ok(script)
+}
+
+#[test]
+fn the_longest_script_and_the_longest_file(rt: HostRuntime) -> Result<(), Fail> {
+    let alloc = rt.alloc();
+    let script = script_of_letters(alloc, 65_523)?;
+    assert_eq!(rt; script.len(), 65_536);
+    let (ended, _) = edit(&rt, &script, FILE)?;
+    assert_eq!(rt; ended, 0);
+    let (ended, written) = edit(&rt, &script_of_letters(alloc, 65_524)?, FILE)?;
+    assert_eq!(rt; ended, 4);
+    assert!(rt; written.is_empty());
+
+    let mut file = vec![in alloc; b'a'; 1_048_576]?;
+    let (ended, _) = edit(&rt, SCRIPT, &file)?;
+    assert_eq!(rt; ended, 0);
+    file.push(b'a')?;
+    let (ended, written) = edit(&rt, SCRIPT, &file)?;
+    assert_eq!(rt; ended, 15);
+    assert!(rt; written.is_empty());
+    Ok(())
+}
+
+#[test]
+fn words_that_are_no_command(rt: HostRuntime) -> Result<(), Fail> {
+    let table: [(&[&str], u32); 6] = [
+        (&[], 0),
+        (&["check", "file"], 0),
+        (&["", "file"], 0),
+        (&["edit"], 1),
+        (&["edit", ""], 1),
+        (&["edit", "file", "more"], 2),
+    ];
+    for (texts, at) in table {
+        let (status, written) = outcome(&rt, texts, SCRIPT, FILE)?;
+        assert_eq!(rt; status, Status::BadWords { at });
+        assert!(rt; written.is_empty());
+    }
+    Ok(())
+}
+
+#[test]
+fn a_read_that_fails_in_mid_stream(rt: HostRuntime) -> Result<(), Fail> {
+    let alloc = rt.alloc();
+    let words = words(alloc, &["edit", "file"])?;
+    let mut script = MemSource::new(script_of_letters(alloc, 4987)?, vec![in alloc; 1]?);
+    let mut disk = CalmDisk::new(FILE.to_vec(alloc)?);
+    let mut sink = CalmSink::new(alloc);
+    let status = run(&rt, alloc, &words, &mut script, &mut disk, &mut sink);
+    assert_eq!(rt; ended(status)?, Status::ReadFault);
+    assert!(rt; sink.bytes().is_empty());
+    // The first read took 4096 bytes.
+    assert_eq!(rt; read_whole(alloc, &mut script, 5000)?.len(), 904);
+    Ok(())
+}
+
+/// A sink in memory that takes at most four bytes at a time.
+#[derive(Drop)]
+struct SlowSink {
+    sink: MemSink,
+}
+
+impl Sink for SlowSink {
+    ghost got = { λ s. Some s.sink.got };
+
+    ghost faults = { λ s. s.sink.faults };
+
+    fn write(&mut self, bytes: &[u8]) -> Result<usize, SinkFail> {
+        let count = bytes.len().min(4);
+        self.sink.write(&bytes[..count])
+    }
+}
+
+#[test]
+fn a_write_that_fails_leaves_the_first_of_the_output(rt: HostRuntime) -> Result<(), Fail> {
+    let alloc = rt.alloc();
+    let words = words(alloc, &["edit", "file"])?;
+    let table: [(u64, &[u8]); 2] = [(0, b""), (1, b"edit")];
+    for (failing, first) in table {
+        let mut script = CalmSource::new(SCRIPT.to_vec(alloc)?);
+        let mut disk = CalmDisk::new(FILE.to_vec(alloc)?);
+        let mut sink = SlowSink {
+            sink: MemSink::new(alloc, vec![in alloc; failing]?),
+        };
+        let status = run(&rt, alloc, &words, &mut script, &mut disk, &mut sink);
+        assert_eq!(rt; ended(status)?, Status::WriteFault);
+        assert_eq!(rt; sink.sink.bytes(), first);
+    }
+    Ok(())
+}
+
+#[test]
+fn a_disk_that_fails(rt: HostRuntime) -> Result<(), Fail> {
+    let alloc = rt.alloc();
+    let words = words(alloc, &["edit", "file"])?;
+    for call in [DiskCall::SavedLen, DiskCall::SavedAt] {
+        let mut script = CalmSource::new(SCRIPT.to_vec(alloc)?);
+        let plan = DiskPlan { call, nth: 0 };
+        let mut disk = MemDisk::new(FILE.to_vec(alloc)?, vec![in alloc; plan]?);
+        let mut sink = CalmSink::new(alloc);
+        let status = run(&rt, alloc, &words, &mut script, &mut disk, &mut sink);
+        assert_eq!(rt; ended(status)?, Status::DiskFault);
+        assert!(rt; sink.bytes().is_empty());
+        // The next run over the same disk meets no fault.
+        let mut script = CalmSource::new(SCRIPT.to_vec(alloc)?);
+        let status = run(&rt, alloc, &words, &mut script, &mut disk, &mut sink);
+        assert_eq!(rt; ended(status)?, Status::Ok);
+        assert_eq!(rt; sink.bytes(), OUTPUT);
+    }
+    Ok(())
+}
+
+#[test]
+fn each_status_has_its_code_and_its_line(rt: HostRuntime) -> Result<(), Fail> {
+    let table = [
+        (Status::Ok, 0, ""),
+        (Status::NoMemory, 1, "kted: out of memory"),
+        (Status::BadWords { at: 12 }, 2, "kted: word 12 does not fit"),
+        (Status::ReadFault, 3, "kted: reading the script failed"),
+        (Status::BadScript, 4, "kted: the script does not fit"),
+        (Status::DiskFault, 5, "kted: the disk failed"),
+        (Status::WriteFault, 10, "kted: writing failed"),
+        (
+            Status::NotYet,
+            15,
+            "kted: this form of file is not read yet",
+        ),
+    ];
+    for (status, code, line) in table {
+        assert_eq!(rt; status.code(), code);
+        assert_eq!(rt; status.line(rt.alloc())?.as_str(), line);
+    }
+    Ok(())
+}
