@@ -97,8 +97,8 @@ impl Buffer {
         Ok(())
     }
 
-    /// Makes a primitive, carries every cursor, as KTextEditor's Document and MovingCursor do, and tells what is to be
-    /// kept of it. The buffer is then ready for moving cursors to the lines that the primitive touched.
+    /// Makes a primitive, as KTextEditor's Document does, carries every cursor by the rule of [`Entry::carry`], and tells
+    /// what is to be kept of it. The buffer is then ready for moving cursors to the lines that the primitive touched.
     pub fn apply(&mut self, primitive: &Primitive) -> Entry
         requires ready { IsReadyFor primitive.now self.old }
         requires columns { ColumnsFit self.old.hung }

@@ -2,8 +2,8 @@
 //!
 //! A [`Buffer`] is seen as its text, the places of its cursors by their numbers, and what it is ready for. A primitive is
 //! made in two steps. [`Buffer::reserve`] makes room and may want memory; [`Buffer::apply`] then makes the primitive,
-//! carries every cursor as KTextEditor's MovingCursor documents it, and cannot fail. Both are proved to give the text,
-//! the entry and the places of the definitions, for every text and every primitive that fits it.
+//! carries every cursor by the rule of `kte_place`, and cannot fail. Both are proved to give the text, the entry and the
+//! places of the definitions, for every text and every primitive that fits it.
 //!
 //! - `buffer`: the buffer
 //! - `rows`, `row`: the lines of a text as vectors with room of their own, and one of them

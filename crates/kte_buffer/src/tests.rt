@@ -257,6 +257,13 @@ fn what_changes_nothing_is_judged_as_any_other(rt: HostRuntime) -> Result<(), Fa
             length: 0,
         };
         assert_eq!(rt; buffer.fits(&remove), want);
+        let nothing = load(rt.alloc(), b"")?.text.into_lines().pop();
+        let insert = Primitive::Insert {
+            line,
+            column,
+            text: nothing.ok_or("no line")?,
+        };
+        assert_eq!(rt; buffer.fits(&insert), want);
     }
     assert_eq!(rt;
         buffer.fits(&Primitive::Unwrap { line: 0 }),

@@ -11,16 +11,16 @@
 //!   chosen calls.
 //! - `real`: the streams and the file of the system. They tell nothing, and nothing is claimed of
 //!   what they give or keep.
-//! - `rows`: worked rows of the definitions in `specs/`.
+//! - `examples`: worked examples of the definitions in `specs/`.
 #![tactic(auto)]
 
 pub mod calm;
 pub mod causes;
 pub mod counts;
+pub mod examples;
 pub mod memory;
 pub mod outside;
 pub mod real;
-pub mod rows;
 #[cfg(test)]
 mod tests;
 pub mod whole;

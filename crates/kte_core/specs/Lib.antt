@@ -2,4 +2,4 @@ pub mod React
 pub mod Replay
 pub mod Requests
 pub mod Holds
-pub mod Rows
+pub mod Examples

@@ -6,18 +6,18 @@
 //! - `kernel`: the core and its calls, and the commands that change the text
 //! - `ranges`: the commands on ranges
 //! - `request`, `reply`, `event`: what is asked, what is replied, and what is kept of both
-//! - `rows`: worked rows of the definitions
+//! - `examples`: worked examples of the definitions
 //!
 //! `React` in specs/ has the answer to each request and the state after it, `Replay` a core's state as the replay of its
 //! events.
 #![tactic(auto)]
 
 mod event;
+pub mod examples;
 mod kernel;
 mod ranges;
 mod reply;
 mod request;
-pub mod rows;
 #[cfg(test)]
 mod tests;
 

@@ -1,5 +1,5 @@
 -- A document that was just loaded.
-use Rattle.std.proofs.Common.{◌≡◌, ℕ, List, [], None, Some, IsSome, refl, sym, ap, ◌∙◌, subst, arith}
+use Rattle.std.proofs.Common.{◌≡◌, ℕ, List, [], None, Some, ap, ◌∙◌, arith}
 use Rattle.std.specs.Ordering.{nat_cmp}
 use Rattle.std.specs.FinMap.{get, empty, get-empty}
 use Rattle.kte_ranges.specs.declared.info.RangeInfo.{RangeInfo}
@@ -35,6 +35,7 @@ no_standings hung ranges none = ap (λ (m : Ranges). standings_of hung m) none �
 pub CameBy-new : (text : List (List ℕ)) (document : Document) → document.text ≡ text → document.revision ≡ 0 → document.ranges ≡ empty → document.next ≡ 1
     → CameBy text [] document
 CameBy-new text document is revision none next = record {
+  fits = tt;
   text = is;
   revision = revision;
   ranges = λ id range there. absurd (nothing id range there);

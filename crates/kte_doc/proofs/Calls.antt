@@ -1,11 +1,9 @@
 -- What the calls on one range do to the cursors and to what contracts see.
-use Rattle.std.proofs.Common.{◌≡◌, ◌≢◌, ℕ, ◌<◌, ◌≤◌, ◌==◌, ◌||◌, ◌&&◌, if◌then◌else◌, nat_lt, Bool, true, false, Option, None, Some, IsSome, IsTrue, ◌⊎◌, inl, inr, refl, sym, ap, ◌∙◌, subst, arith}
+use Rattle.std.proofs.Common.{◌≡◌, ◌≢◌, ℕ, ◌≤◌, ◌==◌, ◌&&◌, if◌then◌else◌, nat_lt, Bool, true, false, Option, None, Some, IsSome, IsTrue, inl, inr, refl, sym, ap, ◌∙◌, subst, arith}
 use Rattle.std.proofs.lemmas.Bool.{cases_eq}
 use Rattle.std.proofs.lemmas.Bool.Decides.{nat_tests}
-use Rattle.std.specs.Ordering.{nat_cmp}
 use Rattle.std.specs.Cmp.{nat_cmp_total}
-use Rattle.std.specs.FinMap.{FinMap, get, insert, remove, same_map, nat_cmp-IsAntisymmetric, gets}
-use Rattle.kte_place.specs.declared.place.Place.{Place}
+use Rattle.std.specs.FinMap.{get, insert, remove, same_map, nat_cmp-IsAntisymmetric, gets}
 use Rattle.kte_place.specs.declared.span.Expand.{Expand}
 use Rattle.kte_place.specs.declared.span.Empty.{Empty}
 use Rattle.kte_place.specs.Ends.{Ends}
@@ -16,11 +14,11 @@ use Rattle.kte_ranges.specs.declared.info.RangeInfo.{RangeInfo}
 use Rattle.kte_ranges.specs.Table.{Ranges}
 use Rattle.kte_ranges.specs.Cursors.{Hung, span_of, is_among, holds_cursor}
 use Rattle.kte_doc.specs.declared.document.TheConstants.{FARTHEST}
-use Rattle.kte_doc.specs.Standings.{Standing, Standings, SpanIsInReach}
+use Rattle.kte_doc.specs.Standings.{Standing, SpanIsInReach}
 use Rattle.kte_doc.specs.Hanging.{HungAt, HangsNew}
 use Rattle.kte_doc.specs.Inside.{standing_of, standings_of, IsWithin, HangAt, CursorsFit}
 use Rattle.kte_doc.proofs.OneRange.{span_of-HangAt, span_of-invalid, first_or_second, cursors_of_held, hangs_held, settle_ordered, settle_within}
-use Rattle.kte_doc.proofs.Swapped.{cursors_of, Swaps, Puts, HangsAs, CursorsFit-swapped, others_stand, one_stands}
+use Rattle.kte_doc.proofs.Swapped.{cursors_of, Swaps, Puts, CursorsFit-swapped, others_stand, one_stands}
 
 -- the cursors of a range of the table hang
 pub hangs_of : (hung : Hung) (ranges : Ranges) (lines farthest id : ℕ) (info : RangeInfo) → CursorsFit hung ranges lines farthest

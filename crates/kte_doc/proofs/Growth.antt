@@ -1,10 +1,10 @@
 -- How far a primitive moves a place.
-use Rattle.std.proofs.Common.{◌≡◌, ℕ, ◌+◌, ◌-◌, ◌*◌, ◌<◌, ◌≤◌, List, [], length, None, refl, arith}
+use Rattle.std.proofs.Common.{◌≡◌, ℕ, ◌+◌, ◌-◌, ◌<◌, ◌≤◌, List, [], length, None, refl, arith}
 use Rattle.std.proofs.lemmas.Bool.Decides.{nat_tests}
 use Rattle.std.proofs.lemmas.List.Sums.{sum_by-take-drop, sum_by-drop_more}
 use Rattle.kte_text.specs.Texts.{line_at, size_of, units_of}
 use Rattle.kte_text.specs.Primitives.{FitsText, misfit, after}
-use Rattle.kte_text.specs.Laws.{FitsText-from_misfit, size_of-after_unwrap, size_of-after_insert, small-from_misfit}
+use Rattle.kte_text.specs.Laws.{FitsText-from_misfit, size_of-after_unwrap, small-from_misfit}
 use Rattle.kte_text.specs.declared.TheConstants.{GREATEST_SIZE}
 use Rattle.kte_text.specs.declared.primitive.Primitive.{Primitive}
 use Rattle.kte_text.specs.declared.primitive.Primitive.TheVariants.{Wrap, Unwrap, Insert, Remove}

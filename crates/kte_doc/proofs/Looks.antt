@@ -1,18 +1,17 @@
 -- What is answered about the ranges.
-use Rattle.std.proofs.Common.{◌≡◌, ℕ, ◌<◌, ◌≤◌, Option, None, Some, is_some, Result, Ok, Err, IsSome, IsTrue, refl, sym, ap, ◌∙◌, subst, arith}
+use Rattle.std.proofs.Common.{◌≡◌, ℕ, Option, None, Some, is_some, Result, Ok, Err, IsSome, refl, sym, ap, ◌∙◌, subst}
 use Rattle.std.specs.Prelude.{option_and_then}
 use Rattle.std.specs.Option.{option_map, ok_or}
 use Rattle.std.specs.Result.{result_unwrap_or}
 use Rattle.std.specs.FinMap.{get}
 use Rattle.kte_place.specs.declared.place.Place.{Place}
 use Rattle.kte_place.specs.Ends.{Ends}
-use Rattle.kte_place.specs.Place.{is_at_or_before}
-use Rattle.kte_place.specs.Span.{ends, start_on, end_on}
+use Rattle.kte_place.specs.Span.{ends}
 use Rattle.kte_place.specs.Cursors.{Hanging, place_of}
 use Rattle.kte_ranges.specs.declared.info.RangeInfo.{RangeInfo}
 use Rattle.kte_ranges.specs.declared.table.NoRange.{NoRange}
 use Rattle.kte_ranges.specs.Table.{Ranges}
-use Rattle.kte_ranges.specs.Cursors.{Hung, span_of, ends_at}
+use Rattle.kte_ranges.specs.Cursors.{Hung, span_of}
 use Rattle.kte_doc.specs.Standings.{Standing, Standings, Tells, spans_of}
 use Rattle.kte_doc.specs.Inside.{standing_of, standings_of, HangAt, CursorsFit}
 use Rattle.kte_doc.proofs.Maps.{get-standings_of, get-spans_of}

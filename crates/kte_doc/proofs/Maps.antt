@@ -7,7 +7,7 @@ use Rattle.std.specs.List.{filter_map, cons_option}
 use Rattle.std.proofs.lemmas.Bool.{cases_eq}
 use Rattle.std.specs.Ordering.{nat_cmp, eq_by_cmp, is_lt}
 use Rattle.std.specs.Cmp.{nat_cmp_total}
-use Rattle.std.specs.FinMap.{FinMap, get, keys, empty, get-empty, same_map, nat_cmp-IsAntisymmetric, entries, entries_sorted, find, is_sorted, from_sorted, from_entries, entries-from_sorted, get-from_sorted, get-from_entries, get-entries}
+use Rattle.std.specs.FinMap.{get, keys, empty, get-empty, same_map, nat_cmp-IsAntisymmetric, entries, entries_sorted, find, is_sorted, entries-from_sorted, get-from_sorted, get-from_entries, get-entries}
 use Rattle.std.specs.FinMap.Entries.{below_all}
 use Rattle.kte_place.specs.Ends.{Ends}
 use Rattle.kte_ranges.specs.Table.{Ranges}

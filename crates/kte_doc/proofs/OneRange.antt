@@ -1,5 +1,5 @@
 -- The cursors of one range: where it stands by them.
-use Rattle.std.proofs.Common.{◌≡◌, ◌≢◌, ℕ, ◌<◌, ◌≤◌, ◌==◌, ◌||◌, Bool, true, false, Option, None, Some, IsSome, IsTrue, ◌⊎◌, inl, inr, refl, sym, ap, ◌∙◌, subst, arith}
+use Rattle.std.proofs.Common.{◌≡◌, ℕ, true, false, Option, None, Some, IsSome, IsTrue, ◌⊎◌, inl, inr, refl, sym, ap, ◌∙◌, subst, arith}
 use Rattle.std.proofs.lemmas.Bool.Decides.{nat_tests}
 use Rattle.std.specs.FinMap.{get}
 use Rattle.kte_place.specs.declared.place.Place.{Place}
@@ -8,10 +8,10 @@ use Rattle.kte_place.specs.declared.span.Empty.TheVariants.{Allow, Void}
 use Rattle.kte_place.specs.Ends.{Ends}
 use Rattle.kte_place.specs.Place.{is_at_or_before}
 use Rattle.kte_place.specs.Span.{ends, settle, start_on, end_on}
-use Rattle.kte_place.specs.Cursors.{Hanging, place_of}
+use Rattle.kte_place.specs.Cursors.{Hanging}
 use Rattle.kte_buffer.specs.Cursors.{hanging}
 use Rattle.kte_ranges.specs.declared.info.RangeInfo.{RangeInfo}
-use Rattle.kte_ranges.specs.Cursors.{Hung, span_of, ends_at, both_ends, is_among, holds_cursor}
+use Rattle.kte_ranges.specs.Cursors.{Hung, span_of, ends_at, is_among, holds_cursor}
 use Rattle.kte_doc.specs.Standings.{IsInReach, SpanIsInReach}
 use Rattle.kte_doc.specs.Inside.{IsWithin, HangAt}
 

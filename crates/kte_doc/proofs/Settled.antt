@@ -1,6 +1,5 @@
 -- All ranges are carried over an entry, and settle.
-use Rattle.std.proofs.Common.{◌≡◌, ◌≢◌, ℕ, ◌+◌, ◌<◌, ◌≤◌, ◌^◌, ◌==◌, ◌||◌, IfSome, Bool, true, false, List, length, Option, None, Some, IsSome, IsTrue, ◌⊎◌, inl, inr, refl, sym, ap, ◌∙◌, subst, arith}
-use Rattle.std.proofs.lemmas.Bool.Decides.{nat_tests}
+use Rattle.std.proofs.Common.{◌≡◌, ℕ, ◌+◌, ◌<◌, ◌≤◌, ◌^◌, IfSome, Bool, true, false, List, length, Option, None, Some, IsSome, IsTrue, ◌⊎◌, inl, inr, refl, sym, ap, ◌∙◌, subst, arith}
 use Rattle.std.specs.Option.{option_map}
 use Rattle.std.specs.FinMap.{get}
 use Rattle.kte_text.specs.Primitives.{misfit, after}
@@ -12,25 +11,25 @@ use Rattle.kte_place.specs.declared.place.TheConstants.{GREATEST_COLUMN}
 use Rattle.kte_place.specs.declared.entry.Entry.{Entry}
 use Rattle.kte_place.specs.declared.entry.EntryKind.TheVariants.{Unwrap}
 use Rattle.kte_place.specs.Ends.{Ends}
-use Rattle.kte_place.specs.Place.{is_at_or_before, is_before}
+use Rattle.kte_place.specs.Place.{is_before}
 use Rattle.kte_place.specs.Span.{ends, settle, start_on, end_on, carry_span}
 use Rattle.kte_place.specs.Entry.{carry}
 use Rattle.kte_place.specs.Cursors.{Hanging, cursor_at}
 use Rattle.kte_buffer.specs.Cursors.{hanging, carried}
-use Rattle.kte_buffer.specs.Entries.{entry, touched}
+use Rattle.kte_buffer.specs.Entries.{entry}
 use Rattle.kte_buffer.specs.Buffer.{is_home, ColumnsFit}
 use Rattle.kte_buffer.specs.declared.buffer.Ready.TheVariants.{ToRehome}
 use Rattle.kte_buffer.specs.Laws.{IsWithin-entry}
 use Rattle.kte_ranges.specs.declared.info.RangeInfo.{RangeInfo}
 use Rattle.kte_ranges.specs.Table.{Ranges, AllInfos}
-use Rattle.kte_ranges.specs.Cursors.{Hung, span_of, ends_at, is_among, holds_cursor, IsFree, Hangs, CursorsHang, CursorsApart, StartIsReady, StartsAreReady}
+use Rattle.kte_ranges.specs.Cursors.{Hung, span_of, ends_at, is_among, holds_cursor, IsFree, CursorsHang, CursorsApart, StartsAreReady}
 use Rattle.kte_ranges.specs.Settling.{settled, settled_span, settled_info, cursors_kept, sent_to, CursorsFollow}
-use Rattle.kte_doc.specs.Standings.{Standing, moved_over}
+use Rattle.kte_doc.specs.Standings.{moved_over}
 use Rattle.kte_doc.specs.Inside.{standing_of, standings_of, IsWithin, HangAt, CursorsFit, farthest_at}
 use Rattle.kte_doc.proofs.Crossing.{crossed}
 use Rattle.kte_doc.proofs.Growth.{IsWithin-carried}
 use Rattle.kte_doc.proofs.Maps.{get-standings_of}
-use Rattle.kte_doc.proofs.OneRange.{span_of-HangAt, span_of-invalid, ends_at-both, first_or_second, holds_first, holds_second, cursors_of_held, hangs_held, settle_keeps, settle_ordered, settle_within}
+use Rattle.kte_doc.proofs.OneRange.{span_of-HangAt, span_of-invalid, ends_at-both, first_or_second, cursors_of_held, settle_ordered, settle_within}
 
 -- every cursor is carried over the entry
 abbrev pub AllCarried : Entry → Hung → Hung → Type 0

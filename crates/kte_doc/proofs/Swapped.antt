@@ -1,21 +1,15 @@
 -- One range comes, goes or is set, with its cursors.
-use Rattle.std.proofs.Common.{◌≡◌, ◌≢◌, ℕ, ◌<◌, ◌≤◌, ◌==◌, ◌||◌, if◌then◌else◌, Bool, true, false, Option, None, Some, IsSome, IsTrue, ◌⊎◌, inl, inr, refl, sym, ap, ◌∙◌, subst, arith}
+use Rattle.std.proofs.Common.{◌≡◌, ◌≢◌, ℕ, Bool, true, false, Option, None, Some, IsSome, IsTrue, ◌⊎◌, inl, inr, refl, sym, ap, ◌∙◌, subst, arith}
 use Rattle.std.proofs.lemmas.Bool.{cases_eq}
-use Rattle.std.proofs.lemmas.Bool.Decides.{nat_tests}
 use Rattle.std.specs.Prelude.{option_and_then}
 use Rattle.std.specs.Option.{option_map}
-use Rattle.std.specs.FinMap.{get, insert, gets}
-use Rattle.kte_place.specs.declared.span.Expand.{Expand}
+use Rattle.std.specs.FinMap.{get}
 use Rattle.kte_place.specs.Ends.{Ends}
-use Rattle.kte_place.specs.Span.{start_on, end_on}
-use Rattle.kte_place.specs.Cursors.{Hanging}
-use Rattle.kte_buffer.specs.Cursors.{hanging}
 use Rattle.kte_ranges.specs.declared.info.RangeInfo.{RangeInfo}
 use Rattle.kte_ranges.specs.Table.{Ranges}
-use Rattle.kte_ranges.specs.Cursors.{Hung, span_of, is_among, holds_cursor, CursorsApart, HoldsTwo}
-use Rattle.kte_doc.specs.Hanging.{HungAt, HangsNew}
-use Rattle.kte_doc.specs.Inside.{standing_of, standings_of, IsWithin, HangAt, CursorsFit}
-use Rattle.kte_doc.proofs.OneRange.{span_of-HangAt, span_of-invalid, ends_at-both, first_or_second, holds_first, holds_second, cursors_of_held, hangs_held}
+use Rattle.kte_ranges.specs.Cursors.{Hung, span_of, is_among, holds_cursor}
+use Rattle.kte_doc.specs.Inside.{standing_of, standings_of, HangAt, CursorsFit}
+use Rattle.kte_doc.proofs.OneRange.{span_of-HangAt, span_of-invalid, holds_first, holds_second, cursors_of_held, hangs_held}
 use Rattle.kte_doc.proofs.Maps.{get-standings_of}
 
 -- the cursors of a range, if there is one and it is not invalid

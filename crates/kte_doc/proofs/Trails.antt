@@ -1,5 +1,5 @@
 -- Where ranges stand after one primitive more, and what keeps a document one that came by a trail.
-use Rattle.std.proofs.Common.{◌≡◌, ℕ, suc, ◌+◌, ◌<◌, ◌≤◌, List, [], ◌∷◌, ◌++◌, length, take, drop, fold, Option, None, Some, IsSome, ◌⊎◌, inl, inr, refl, sym, ap, ◌∙◌, subst, arith, length-append}
+use Rattle.std.proofs.Common.{◌≡◌, ℕ, suc, ◌+◌, ◌<◌, ◌≤◌, List, [], ◌∷◌, ◌++◌, length, take, drop, Option, None, Some, IsSome, false, inl, inr, refl, sym, ap, ◌∙◌, subst, arith, length-append}
 use Rattle.std.proofs.lemmas.List.{take-append-le, drop-append-le}
 use Rattle.std.proofs.lemmas.List.Sums.{fold_push}
 use Rattle.std.proofs.Math.Seq.{take-length}
@@ -8,12 +8,11 @@ use Rattle.std.proofs.lemmas.Bool.{cases_eq}
 use Rattle.std.proofs.lemmas.Bool.Decides.{nat_tests}
 use Rattle.std.specs.Option.{option_map}
 use Rattle.std.specs.FinMap.{get, insert, remove, gets}
-use Rattle.kte_text.specs.Primitives.{after, after_all}
-use Rattle.kte_text.specs.Laws.{after_all-append}
+use Rattle.kte_text.specs.Primitives.{is_empty, misfit, after, after_all}
+use Rattle.kte_text.specs.Laws.{after_all-append, FitInTurn-append}
 use Rattle.kte_text.specs.declared.primitive.Primitive.{Primitive}
 use Rattle.kte_place.specs.declared.span.Expand.{Expand}
 use Rattle.kte_place.specs.declared.span.Empty.{Empty}
-use Rattle.kte_place.specs.declared.entry.Entry.{Entry}
 use Rattle.kte_place.specs.Ends.{Ends}
 use Rattle.kte_place.specs.Span.{made, carry_span}
 use Rattle.kte_buffer.specs.Entries.{entry}
@@ -91,10 +90,12 @@ still_there f (Some x) n is some = refl
 
 -- one primitive more
 pub CameBy-primitive : (loaded : List (List ℕ)) (trail : List Primitive) (p : Primitive) (old new : Document) → CameBy loaded trail old
+    → misfit p old.text ≡ None → is_empty p ≡ false
     → new.text ≡ after p old.text → new.revision ≡ old.revision + 1 → new.next ≡ old.next
     → ((id : ℕ) → get new.ranges id ≡ option_map (moved_over (entry p old.text)) (get old.ranges id))
     → CameBy loaded (trail ++ p ∷ []) new
-CameBy-primitive loaded trail p old new came text revision next ranges = record {
+CameBy-primitive loaded trail p old new came fits changes text revision next ranges = record {
+  fits = FitInTurn-append trail (p ∷ []) loaded came.fits (ap (misfit p) (sym came.text) ∙ fits, changes, tt);
   text = text ∙ ap (after p) came.text ∙ sym (after_all-append trail (p ∷ []) loaded);
   revision = omega (arith, revision, came.revision, length-append trail (p ∷ []));
   ranges = λ id range there.
@@ -113,6 +114,7 @@ CameBy-insert : (loaded : List (List ℕ)) (trail : List Primitive) (old new : D
     → new.text ≡ old.text → new.revision ≡ old.revision → new.ranges ≡ insert old.ranges id range → StandsBy loaded trail range
     → 1 ≤ id → id < new.next → old.next ≤ new.next → CameBy loaded trail new
 CameBy-insert loaded trail old new id range came text revision ranges stands one below rising = record {
+  fits = came.fits;
   text = text ∙ came.text;
   revision = revision ∙ came.revision;
   ranges = λ q other there.
@@ -152,6 +154,7 @@ pub CameBy-drop : (loaded : List (List ℕ)) (trail : List Primitive) (old new :
     → CameBy loaded trail old → new.text ≡ old.text → new.revision ≡ old.revision → new.next ≡ old.next
     → new.ranges ≡ remove old.ranges id → CameBy loaded trail new
 CameBy-drop loaded trail old new id came text revision next ranges = record {
+  fits = came.fits;
   text = text ∙ came.text;
   revision = revision ∙ came.revision;
   ranges = λ q other there.

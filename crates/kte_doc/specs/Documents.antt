@@ -1,9 +1,9 @@
 -- A document: a text, its ranges, and how many primitives have changed it since it was loaded.
-use Rattle.std.specs.Prelude.{◌≡◌, ℕ, ◌<◌, ◌≤◌, List, length, IsSome, refl}
-use Rattle.std.specs.FinMap.{get}
+use Rattle.std.specs.Prelude.{◌≡◌, ℕ, ◌≤◌, List, length, refl}
 use Rattle.std.specs.Coded.{Coded, code_by, coded×, coded_list, coded_ℕ}
-use Rattle.kte_text.specs.Primitives.{after_all}
+use Rattle.kte_text.specs.Primitives.{after_all, FitInTurn}
 use Rattle.kte_text.specs.declared.primitive.Primitive.{Primitive}
+use Rattle.kte_ranges.specs.Table.{NumbersBelow}
 use Rattle.kte_doc.specs.Standings.{Standing, Standings, AllStandings, standings_code}
 use Rattle.kte_doc.specs.Trail.{stand}
 
@@ -25,13 +25,10 @@ pub record StandsBy (loaded : List (List ℕ)) (trail : List Primitive) (standin
   pub origin : standing.origin.revision ≤ length trail
   pub span : standing.span ≡ stand loaded trail standing.expand standing.empty standing.origin
 
--- every number in use is at least 1 and below the next one
-abbrev pub NumbersBelow : ℕ → Standings → Type 0
-NumbersBelow next ranges = (id : ℕ) → IsSome (get ranges id) → (1 ≤ id) × (id < next)
-
--- The document came from the loaded text by the primitives of the trail, one after another: that is its text, and every range stands
--- where the trail puts it
+-- The document came from the loaded text by the primitives of the trail, each of which fitted: that is its text, and every range
+-- stands where the trail puts it
 pub record CameBy (loaded : List (List ℕ)) (trail : List Primitive) (document : Document) : Type 0 where
+  pub fits : FitInTurn trail loaded
   pub text : document.text ≡ after_all trail loaded
   pub revision : document.revision ≡ length trail
   pub ranges : AllStandings (StandsBy loaded trail) document.ranges

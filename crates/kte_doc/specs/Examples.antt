@@ -3,7 +3,7 @@ use Rattle.std.specs.Prelude.{ℕ, List, [], ◌∷◌, Option}
 use Rattle.kte_text.specs.declared.primitive.Primitive.{Primitive}
 use Rattle.kte_text.specs.declared.primitive.Primitive.TheVariants.{Insert, Remove}
 use Rattle.kte_place.specs.declared.span.Expand.{Expand}
-use Rattle.kte_place.specs.declared.span.Empty.TheVariants.{Allow, Void}
+use Rattle.kte_place.specs.declared.span.Empty.TheVariants.{Allow}
 use Rattle.kte_place.specs.Ends.{Ends}
 use Rattle.kte_place.specs.Examples.{span}
 use Rattle.kte_ranges.specs.declared.info.Origin.{Origin}

@@ -1,11 +1,11 @@
 -- How the two cursors of one range come to hang, and go.
-use Rattle.std.specs.Prelude.{◌≡◌, ◌≢◌, ℕ, Option, None, Some, if◌then◌else◌}
+use Rattle.std.specs.Prelude.{◌≡◌, ◌≢◌, ℕ, Option, None, Some}
 use Rattle.std.specs.FinMap.{get, insert}
 use Rattle.kte_place.specs.declared.span.Expand.{Expand}
 use Rattle.kte_place.specs.Ends.{Ends}
 use Rattle.kte_place.specs.Span.{start_on, end_on}
 use Rattle.kte_buffer.specs.Cursors.{hanging}
-use Rattle.kte_ranges.specs.Cursors.{Hung, is_among}
+use Rattle.kte_ranges.specs.Cursors.{Hung}
 
 -- two new cursors hang at the ends of the span, and do at an insertion what the ends of such a range do
 pub record HungAt (old new : Hung) (expand : Expand) (cursors : ℕ × ℕ) (span : Ends) : Type 0 where

@@ -1,5 +1,5 @@
 -- How a document keeps what contracts see of it.
-use Rattle.std.specs.Prelude.{◌≡◌, ℕ, ◌+◌, ◌*◌, ◌^◌, ◌<◌, ◌≤◌, List, length, map, IsSome, IsTrue, Option, None, Some}
+use Rattle.std.specs.Prelude.{◌≡◌, ℕ, ◌+◌, ◌*◌, ◌^◌, ◌<◌, ◌≤◌, length, map, IsSome, IsTrue, Some}
 use Rattle.std.specs.FinMap.{get, entries, from_sorted}
 use Rattle.kte_place.specs.declared.place.Place.{Place}
 use Rattle.kte_place.specs.declared.span.Expand.{Expand}
@@ -30,6 +30,7 @@ standing_of hung info = record {
 abbrev pub standings_of : Hung → Ranges → Standings
 standings_of hung ranges = from_sorted (map (λ e. (e.0, standing_of hung e.1)) (entries ranges))
 
+-- the document that the fields stand for
 abbrev pub document_of : Inside → Document
 document_of doc = record {
   text = doc.buffer.text;

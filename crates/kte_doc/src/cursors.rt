@@ -1,17 +1,17 @@
 //! The two cursors of a range.
 ghost use Rattle.std.specs.Prelude.{◌≡◌, ◌≢◌, ℕ, ◌<◌, length, None, Some, IfOk, OnErr, IsTrue, IsSome, if◌then◌else◌};
 ghost use Rattle.std.specs.FinMap as map;
-ghost use Rattle.kte_place.specs.Span.{made, start_on, end_on};
+ghost use Rattle.kte_place.specs.Span.{made};
 ghost use Rattle.kte_ranges.specs.Cursors.{is_among};
 ghost use Rattle.kte_doc.specs.Standings.{SpanIsInReach};
 ghost use Rattle.kte_doc.specs.Hanging.{HangsNew, HungAt};
 
 use kte_buffer::Buffer;
-use kte_place::{Cursors, Empty, Expand, OnInsert, Span, settle};
+use kte_place::{Cursors, Empty, Expand, Span, settle};
 use kte_text::Lines;
 use std::alloc::AllocError;
 
-/// HangsNew the cursors of a range that is made at a span of the buffer's text; none where it is invalid. After an error the
+/// Hangs the cursors of a range that is made at a span of the buffer's text; none where it is invalid. After an error the
 /// cursors are as they were.
 pub(crate) fn hang(
     buffer: &mut Buffer,
@@ -35,7 +35,7 @@ pub(crate) fn hang(
     }
 }
 
-/// HangsNew two cursors at the ends of a span.
+/// Hangs two cursors at the ends of a span.
 fn hang_both(buffer: &mut Buffer, span: Span, expand: Expand) -> Result<(u64, u64), AllocError>
     requires reach { SpanIsInReach span }
     requires start { span.start.line < length buffer.old.text }
@@ -44,8 +44,8 @@ fn hang_both(buffer: &mut Buffer, span: Span, expand: Expand) -> Result<(u64, u6
     ensures text { buffer.new.text ≡ buffer.old.text }
     ensures err { OnErr result (buffer.new.hung ≡ buffer.old.hung) }
 {
-    let start = buffer.hang(span.start, start_on(expand))?;
-    match buffer.hang(span.end, end_on(expand)) {
+    let start = buffer.hang(span.start, expand.start())?;
+    match buffer.hang(span.end, expand.end()) {
         Ok(end) => Ok((start, end)),
         Err(error) => {
             buffer.unhang(start);
@@ -65,27 +65,5 @@ pub(crate) fn unhang(buffer: &mut Buffer, cursors: Option<(u64, u64)>)
     if let Some((start, end)) = cursors {
         buffer.unhang(start);
         buffer.unhang(end);
-    }
-}
-
-/// What the start of a range does at an insertion right at it.
-fn start_on(expand: Expand) -> OnInsert
-    ensures { result ≡ start_on expand }
-{
-    if expand.left {
-        OnInsert::Stay
-    } else {
-        OnInsert::Move
-    }
-}
-
-/// What the end of a range does at an insertion right at it.
-fn end_on(expand: Expand) -> OnInsert
-    ensures { result ≡ end_on expand }
-{
-    if expand.right {
-        OnInsert::Move
-    } else {
-        OnInsert::Stay
     }
 }

@@ -4,8 +4,9 @@ ghost use Rattle.std.specs.List.Sorted.{IsStrictlyIncreasing};
 ghost use Rattle.std.specs.FinMap as map;
 ghost use Rattle.kte_text.specs.Primitives.{HasEnd, is_empty, misfit, after};
 ghost use Rattle.kte_buffer.specs.Entries.{entry};
+ghost use Rattle.kte_ranges.specs.Table.{NumbersBelow};
 ghost use Rattle.kte_doc.specs.Standings.{SpanIsInReach, Tells, new_range, reset_to, moved_over};
-ghost use Rattle.kte_doc.specs.Documents.{CameBy, NumbersBelow};
+ghost use Rattle.kte_doc.specs.Documents.{CameBy};
 
 use crate::cursors::{hang, unhang};
 use crate::fault::{DocFault, SetFault};
@@ -16,7 +17,7 @@ use kte_text::{Lines, Primitive, Text};
 use std::alloc::{AllocError, Global};
 use std::marker::Model;
 
-/// The greatest line and the greatest column of a span of which a range is made.
+/// The greatest line, from 0, and the greatest column, in UTF-16 units, of a span of which a range is made: 2^30.
 pub const FARTHEST: u64 = 1 << 30;
 
 /// A document.
@@ -68,7 +69,8 @@ impl Doc {
     }
 
     /// Makes a primitive, which is one revision more, and answers its entry. Every range is carried over it and settled.
-    /// After an error nothing has changed.
+    /// A misfit is answered before a full count of revisions, and both before want of memory. After an error nothing has
+    /// changed.
     pub fn primitive(&mut self, primitive: &Primitive) -> Result<Entry, DocFault>
         requires end { HasEnd primitive.now }
         requires some { is_empty primitive.now ≡ false }
@@ -89,6 +91,10 @@ impl Doc {
         ensures full { (r : _) → IsErrOf result (DocFault.RevisionsFull r)
             → (misfit primitive.now self.old.text ≡ None)
             × (r ≡ self.old.revision) × (self.old.limit ≤ self.old.revision) }
+        ensures misfits { (m : _) → misfit primitive.now self.old.text ≡ Some m
+            → result ≡ Err (DocFault.Misfit m) }
+        ensures fills { misfit primitive.now self.old.text ≡ None → self.old.limit ≤ self.old.revision
+            → result ≡ Err (DocFault.RevisionsFull self.old.revision) }
         ensures err { OnErr result (self.new ≡ self.old) }
     {
         if let Err(misfit) = self.buffer.fits(primitive) {
@@ -244,7 +250,6 @@ impl Doc {
         ensures within { self.now.revision ≤ self.now.limit }
         ensures small { self.now.limit ≤ 2 ^ 31 }
     {
-        let _limit = self.limit;
         self.revision
     }
 

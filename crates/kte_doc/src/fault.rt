@@ -8,9 +8,10 @@ pub enum DocFault {
     /// It does not fit the text.
     #[error("the primitive does not fit: {0}")]
     Misfit(Misfit),
-    /// As many primitives as may be made have been made.
+    /// As many primitives as may be made have been made: that is the present revision.
     #[error("no revision after {revision}")]
     RevisionsFull { revision: u64 },
+    /// Memory ran out.
     #[error("out of memory")]
     NoMemory,
 }
@@ -21,6 +22,7 @@ pub enum SetFault {
     /// There is no range of this number.
     #[error("no range {id}")]
     NoRange { id: u64 },
+    /// Memory ran out.
     #[error("out of memory")]
     NoMemory,
 }

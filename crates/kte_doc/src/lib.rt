@@ -1,8 +1,8 @@
 //! A document: a text that primitives change, the ranges that move with it, and the count of its revisions.
 //!
 //! At every moment each range stands where the primitives made since loading put it: it was made or last set in the text
-//! at one revision, and was then carried over every later primitive and settled after each, as KTextEditor's MovingRange
-//! documents it. [`Doc::primitive`] makes room in all layers first, and then cannot fail. Whatever is refused, or wants
+//! at one revision, and was then carried over every later primitive and settled after each, by the rules of `kte_place`.
+//! [`Doc::primitive`] makes room in all layers first, and then cannot fail. Whatever is refused, or wants
 //! memory, has changed nothing.
 //!
 //! - `document`: the document and its calls

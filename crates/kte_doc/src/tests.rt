@@ -1,31 +1,139 @@
-use crate::Doc;
+ghost use Rattle.std.specs.Prelude.{◌≡◌};
+ghost use Rattle.kte_doc.specs.Standings.{SpanIsInReach};
+
+use crate::{Doc, DocFault, SetFault};
 use kte_place::{Empty, Expand, Place, Span};
-use kte_ranges::RangeKind;
-use kte_text::{Primitive, load};
+use kte_ranges::{NoRange, RangeKind};
+use kte_text::{Lines, Misfit, Primitive, load};
+use std::alloc::Global;
+use std::process::Abort;
 use std::test::Fail;
 
-#[test]
-fn a_range_moves_with_the_text(rt: HostRuntime) -> Result<(), Fail> {
-    let alloc = rt.alloc();
-    let mut doc = Doc::new(alloc, load(alloc, b"ab\ncd")?.text, 2)?;
-    let start = Place { line: 1, column: 0 };
-    let end = Place { line: 1, column: 1 };
-    let neither = Expand {
-        left: false,
-        right: false,
+const NEITHER: Expand = Expand {
+    left: false,
+    right: false,
+};
+
+fn at(line: u32, column: u64) -> Place
+    ensures line { result.line ≡ line }
+    ensures column { result.column ≡ column }
+{
+    Place { line, column }
+}
+
+/// The document of a file of printable ASCII.
+fn document(alloc: Global, file: &[u8]) -> Result<Doc, Fail> {
+    Ok(Doc::new(alloc, load(alloc, file)?.text, 8)?)
+}
+
+/// Makes a range of the user's.
+fn make(
+    rt: &impl Abort,
+    doc: &mut Doc,
+    span: Span,
+    expand: Expand,
+    empty: Empty,
+) -> Result<u64, Fail>
+    requires { SpanIsInReach span }
+{
+    assert!(rt; doc.next_id() < 1 << 63);
+    Ok(doc.make_range(span, expand, empty, RangeKind::User)?)
+}
+
+/// Inserts letters into line 0.
+fn insert(
+    rt: &(impl Abort + AllocGlobal),
+    doc: &mut Doc,
+    column: u64,
+    letters: &[u8],
+) -> Result<(), Fail> {
+    let mut lines = load(rt.alloc(), letters)?.text.into_lines();
+    let text = lines.pop().ok_or("no line")?;
+    let insert = Primitive::Insert {
+        line: 0,
+        column,
+        text,
     };
-    let id = doc.make_range(
-        Span::new(start, end),
-        neither,
-        Empty::Allow,
-        RangeKind::User,
-    )?;
-    doc.primitive(&Primitive::Wrap { line: 0, column: 1 })?;
-    let moved = Span::new(Place { line: 2, column: 0 }, Place { line: 2, column: 1 });
+    assert!(rt; !insert.is_empty());
+    doc.primitive(&insert)?;
+    Ok(())
+}
+
+#[test]
+fn a_range_grows_as_it_was_made_to(rt: HostRuntime) -> Result<(), Fail> {
+    let mut doc = document(rt.alloc(), b"xabx")?;
+    let table = [
+        (false, false, 2, 4),
+        (true, false, 1, 4),
+        (false, true, 2, 5),
+        (true, true, 1, 5),
+    ];
+    for (left, right, _, _) in table {
+        let ab = Span::new(at(0, 1), at(0, 3));
+        make(&rt, &mut doc, ab, Expand { left, right }, Empty::Allow)?;
+    }
+    insert(&rt, &mut doc, 3, b"R")?;
+    insert(&rt, &mut doc, 1, b"L")?;
+    for (n, (_, _, start, end)) in table.into_iter().enumerate() {
+        let grown = Span::new(at(0, start), at(0, end));
+        assert_eq!(rt; doc.range(n as u64 + 1), Ok(Some(grown)));
+    }
+    Ok(())
+}
+
+#[test]
+fn an_empty_range_moves_behind_what_is_inserted(rt: HostRuntime) -> Result<(), Fail> {
+    let mut doc = document(rt.alloc(), b"abcd")?;
+    let empty = Span::new(at(0, 2), at(0, 2));
+    let id = make(&rt, &mut doc, empty, NEITHER, Empty::Allow)?;
+    insert(&rt, &mut doc, 2, b"xyz")?;
+    let moved = Span::new(at(0, 5), at(0, 5));
     assert_eq!(rt; doc.range(id), Ok(Some(moved)));
-    doc.set_range(id, Span::new(start, end))?;
-    assert_eq!(rt; doc.range(id), Ok(Some(Span::new(start, end))));
-    assert_eq!(rt; doc.range_ids(alloc)?.as_slice(), [1].as_slice());
-    assert_eq!(rt; doc.copy_text(alloc)?.len(), 3);
+    Ok(())
+}
+
+#[test]
+fn a_range_from_beyond_its_line_is_emptied_by_a_join(rt: HostRuntime) -> Result<(), Fail> {
+    let mut doc = document(rt.alloc(), b"abc\nde")?;
+    let across = Span::new(at(0, 10), at(1, 2));
+    let allowed = make(&rt, &mut doc, across, NEITHER, Empty::Allow)?;
+    let void = make(&rt, &mut doc, across, NEITHER, Empty::Void)?;
+    doc.primitive(&Primitive::Unwrap { line: 1 })?;
+    let emptied = Span::new(at(0, 10), at(0, 10));
+    assert_eq!(rt; doc.range(allowed), Ok(Some(emptied)));
+    assert_eq!(rt; doc.range(void), Ok(None));
+    assert_eq!(rt; doc.info(void).and_then(|info| info.cursors), None);
+    Ok(())
+}
+
+#[test]
+fn a_range_is_set_and_dropped(rt: HostRuntime) -> Result<(), Fail> {
+    let mut doc = document(rt.alloc(), b"abc")?;
+    let first = Span::new(at(0, 0), at(0, 1));
+    let second = Span::new(at(0, 1), at(0, 3));
+    let id = make(&rt, &mut doc, first, NEITHER, Empty::Void)?;
+    assert_eq!(rt; doc.range(id), Ok(Some(first)));
+    doc.set_range(id, second)?;
+    assert_eq!(rt; doc.range(id), Ok(Some(second)));
+    assert_eq!(rt; doc.range_ids(rt.alloc())?.as_slice(), [1].as_slice());
+    doc.drop_range(id)?;
+    assert_eq!(rt; doc.range(id), Err(NoRange { id: 1 }));
+    assert_eq!(rt; doc.set_range(id, first), Err(SetFault::NoRange { id: 1 }));
+    assert_eq!(rt; doc.next_id(), 2);
+    Ok(())
+}
+
+#[test]
+fn no_primitive_is_made_past_the_limit(rt: HostRuntime) -> Result<(), Fail> {
+    let mut doc = Doc::new(rt.alloc(), load(rt.alloc(), b"")?.text, 2)?;
+    let wrap = Primitive::Wrap { line: 0, column: 0 };
+    doc.primitive(&wrap)?;
+    doc.primitive(&wrap)?;
+    let full = DocFault::RevisionsFull { revision: 2 };
+    assert_eq!(rt; doc.primitive(&wrap), Err(full));
+    let no_line = DocFault::Misfit(Misfit::NoLine { line: 9 });
+    assert_eq!(rt; doc.primitive(&Primitive::Unwrap { line: 9 }), Err(no_line));
+    assert_eq!(rt; doc.revision(), 2);
+    assert_eq!(rt; doc.copy_text(rt.alloc())?.lines(), 3);
     Ok(())
 }

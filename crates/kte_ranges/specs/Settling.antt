@@ -1,5 +1,5 @@
--- What becomes of the ranges and of their cursors when they settle (KTextEditor's MovingRange, as the rule of one range in
--- the crate of places has it).
+-- What becomes of the ranges and of their cursors when they settle: the rule of one range (`kte_place`, after KTextEditor's
+-- MovingRange) for each of them.
 use Rattle.std.specs.Prelude.{◌≡◌, ℕ, Option, None, Some}
 use Rattle.std.specs.Option.{option_map}
 use Rattle.std.specs.FinMap.{get}

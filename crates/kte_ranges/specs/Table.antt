@@ -28,31 +28,35 @@ abbrev pub AllInfos : (RangeInfo → Type 0) → Ranges → Type 0
 AllInfos P ranges = (id : ℕ) (info : RangeInfo) → get ranges id ≡ Some info → P info
 
 -- every number in use is at least 1 and below the next one
-abbrev pub NumbersBelow : ℕ → Ranges → Type 0
+abbrev pub NumbersBelow : {V : Type 0} → ℕ → FinMap nat_cmp V → Type 0
 NumbersBelow next ranges = (id : ℕ) → IsSome (get ranges id) → (1 ≤ id) × (id < next)
 
 -- the range with another origin and other cursors
 abbrev pub reset : RangeInfo → Origin → Option (ℕ × ℕ) → RangeInfo
 reset info origin cursors = record info { origin = origin; cursors = cursors }
 
--- how ranges and tables are stored in the value of a model
+-- how a range grows is stored as its two answers
 abbrev pub expand_code : Coded Expand
 expand_code =
     code_by (Bool × Bool) (coded× coded_bool coded_bool) (λ x. (x.left, x.right))
     (λ t. record { left = t.0; right = t.1 }) (λ _. refl)
 
+-- a range may not be empty
 abbrev pub is_void : Empty → Bool
 is_void Allow = false
 is_void Void = true
 
+-- the choice that a test stands for
 abbrev pub empty_of : Bool → Empty
 empty_of true = Void
 empty_of false = Allow
 
+-- .. which is the one that was tested
 pub empty_of-is_void : (e : Empty) → empty_of (is_void e) ≡ e
 empty_of-is_void Allow = refl
 empty_of-is_void Void = refl
 
+-- stored as the test whether it is void
 abbrev pub empty_code : Coded Empty
 empty_code = code_by Bool coded_bool is_void empty_of empty_of-is_void
 
@@ -62,24 +66,29 @@ kind_number User = None
 kind_number Fold = Some None
 kind_number (Job job) = Some (Some job)
 
+-- the kind that a number stands for
 abbrev pub kind_of : Option (Option ℕ) → RangeKind
 kind_of None = User
 kind_of (Some None) = Fold
 kind_of (Some (Some job)) = Job job
 
+-- .. which is the one that was numbered
 pub kind_of-kind_number : (k : RangeKind) → kind_of (kind_number k) ≡ k
 kind_of-kind_number User = refl
 kind_of-kind_number Fold = refl
 kind_of-kind_number (Job job) = refl
 
+-- a kind is stored as its number
 abbrev pub kind_code : Coded RangeKind
 kind_code = code_by (Option (Option ℕ)) (coded_option (coded_option coded_ℕ)) kind_number kind_of kind_of-kind_number
 
+-- an origin is stored as its revision and its span
 abbrev pub origin_code : Coded Origin
 origin_code =
     code_by (ℕ × Ends) (coded× coded_ℕ ends_code) (λ o. (o.revision, o.span))
     (λ t. record { revision = t.0; span = t.1 }) (λ _. refl)
 
+-- a range is stored as the tuple of its fields
 abbrev pub info_code : Coded RangeInfo
 info_code =
     code_by ((Expand × Empty) × (RangeKind × (Origin × Option (ℕ × ℕ))))

@@ -21,15 +21,20 @@ pub enum RangeKind {
 pub struct Origin {
     /// The revision of the text that the span is of.
     pub revision: u64,
+    /// As it was asked for, before it settled.
     pub span: Span,
 }
 
 /// What a range is.
 #[derive(Clone, Copy, Debug, PartialEq, Eq, Hash)]
 pub struct RangeInfo {
+    /// Whether it grows by what is inserted right at its ends.
     pub expand: Expand,
+    /// What becomes of it when nothing is left in it.
     pub empty: Empty,
+    /// Whose it is.
     pub kind: RangeKind,
+    /// Where it was made or last set.
     pub origin: Origin,
     /// The numbers of the cursors at its start and at its end. `None` where it is invalid.
     pub cursors: Option<(u64, u64)>,

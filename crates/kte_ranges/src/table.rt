@@ -17,6 +17,7 @@ use thiserror::Error;
 #[derive(Clone, Copy, Debug, Drop, Error, PartialEq, Eq)]
 #[error("no range {id}")]
 pub struct NoRange {
+    /// The number that was asked for.
     pub id: u64,
 }
 
@@ -131,8 +132,9 @@ impl RangeTable {
         Ok(self.rows.remove(i).1.cursors)
     }
 
-    /// Brings every range in order after its cursors have moved: an end before its start goes to the start, and a range
-    /// that becomes invalid loses its cursors, which are taken out. Other cursors stay. It takes no memory.
+    /// Brings every range in order after its cursors have moved. Where a range may be empty, an end before its start goes
+    /// to the start; where it may not, an end at or before the start makes it invalid, and its two cursors are taken out.
+    /// Other cursors stay. It takes no memory.
     pub fn settle<C: Cursors>(&mut self, cursors: &mut C)
         requires hang { CursorsHang (C.hung cursors.old) self.old.ranges }
         requires apart { CursorsApart self.old.ranges }

@@ -1,8 +1,8 @@
 -- Units of ASCII are their own UTF-8.
-use Rattle.std.proofs.Common.{◌≡◌, ℕ, ◌<◌, ◌&&◌, Bool, true, false, List, [], ◌∷◌, Some, nat_lt, refl, arith, ap, ◌∙◌}
+use Rattle.std.proofs.Common.{◌≡◌, ℕ, ◌<◌, ◌&&◌, Bool, true, false, List, [], ◌∷◌, Some, nat_lt, refl, arith}
 use Rattle.std.specs.Prelude.{encode_utf8_all}
 use Rattle.std.specs.List.{list_all}
-use Rattle.std.specs.Char.Utf16.{utf16_chars, utf16_lossy_chars, lone_unit_char}
+use Rattle.std.specs.Char.Utf16.{utf16_lossy_chars, lone_unit_char}
 use Rattle.std.proofs.lemmas.Str.{utf16_chars-nil, utf16_chars_lone, encode_ascii}
 
 lone-ascii : (unit : ℕ) → unit < 128 → lone_unit_char unit ≡ Some unit

@@ -3,4 +3,4 @@ pub mod Script
 pub mod Output
 pub mod Statuses
 pub mod Run
-pub mod Rows
+pub mod Examples

@@ -1,10 +1,12 @@
--- The codes of the statuses.
-use Rattle.std.specs.Prelude.{ℕ, ◌≤◌, Bool, true, false}
+-- The statuses: their codes, their lines, and the order in which they come. This project's own rules.
+use Rattle.std.specs.Prelude.{ℕ, ◌≤◌, Bool, true, false, List, [], ◌++◌, codes}
+use Rattle.std.specs.Fmt.{decimal}
 use Rattle.kte_causes.specs.declared.causes.DiskFail.{DiskFail}
 use Rattle.kte_causes.specs.declared.causes.DiskFail.TheVariants as fail
 use Rattle.kte_run.specs.declared.status.Status.{Status}
 use Rattle.kte_run.specs.declared.status.Status.TheVariants as status
 
+-- the code that the program ends with
 abbrev pub code_of : Status → ℕ
 code_of status.Ok = 0
 code_of status.NoMemory = 1
@@ -14,6 +16,17 @@ code_of status.BadScript = 4
 code_of status.DiskFault = 5
 code_of status.WriteFault = 10
 code_of status.NotYet = 15
+
+-- the line on standard error, without its end
+abbrev pub error_line : Status → List ℕ
+error_line status.Ok = []
+error_line status.NoMemory = codes "kted: out of memory"
+error_line (status.BadWords at) = codes "kted: word " ++ decimal at ++ codes " does not fit"
+error_line status.ReadFault = codes "kted: reading the script failed"
+error_line status.BadScript = codes "kted: the script does not fit"
+error_line status.DiskFault = codes "kted: the disk failed"
+error_line status.WriteFault = codes "kted: writing failed"
+error_line status.NotYet = codes "kted: this form of file is not read yet"
 
 -- In the order in which a run tests: the words, reading the script, its form, the disk, the file's form, writing.
 -- Want of memory may come at any of them

@@ -7,14 +7,14 @@
 //! - `words`, `script`, `saved`: what is read
 //! - `output`: what is written
 //! - `status`: the statuses, their codes and their lines
-//! - `rows`: worked rows of the definitions
+//! - `examples`: worked examples of the definitions
 //!
 //! In specs/, `Script` has the form of a script, `Output` that of the output, and `Run` what a run prints.
 #![tactic(auto)]
 
+pub mod examples;
 mod output;
 mod program;
-pub mod rows;
 mod saved;
 mod script;
 mod status;

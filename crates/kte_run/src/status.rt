@@ -1,4 +1,4 @@
-ghost use Rattle.std.specs.Prelude.{◌≡◌};
+ghost use Rattle.std.specs.Prelude.{◌≡◌, IfOk, string_bytes};
 
 use std::alloc::{AllocError, Global};
 
@@ -24,7 +24,7 @@ pub enum Status {
 }
 
 impl Status {
-    ghost use Rattle.kte_run.specs.Statuses.{code_of};
+    ghost use Rattle.kte_run.specs.Statuses.{code_of, error_line};
 
     /// The code that the program ends with.
     pub fn code(&self) -> u8
@@ -43,7 +43,9 @@ impl Status {
     }
 
     /// The line for standard error, without its end; empty where all was done.
-    pub fn line(&self, alloc: Global) -> Result<String, AllocError> {
+    pub fn line(&self, alloc: Global) -> Result<String, AllocError>
+        ensures { IfOk result (λ line. string_bytes line ≡ error_line self.now) }
+    {
         match self {
             Status::Ok => Ok(String::new(alloc)),
             Status::NoMemory => String::from_str(alloc, "kted: out of memory"),

@@ -8,7 +8,7 @@ use Rattle.std.specs.Char.Utf16.{utf16_chars, has_unpaired_surrogate, is_high_su
 use Rattle.std.specs.Option.{option_or}
 use Rattle.kte_text.specs.Units.{IsLineUnit, IsPrintable, IsLine, splits_pair, IsBoundary}
 use Rattle.kte_text.specs.Texts.{line_at, units_of, size_of, IsText}
-use Rattle.kte_text.specs.Primitives.{line_of, columns_of, is_empty, HasLine, after, after_all, beyond, splitting, misplaced, unjoinable, oversize, misfit, FitsText}
+use Rattle.kte_text.specs.Primitives.{line_of, columns_of, is_empty, HasLine, after, after_all, FitInTurn, beyond, splitting, misplaced, unjoinable, oversize, misfit, FitsText}
 use Rattle.kte_text.specs.declared.TheConstants.{GREATEST_SIZE}
 use Rattle.kte_text.specs.declared.primitive.Primitive.{Primitive}
 use Rattle.kte_text.specs.declared.primitive.Primitive.TheVariants.{Wrap, Unwrap, Insert, Remove}
@@ -360,6 +360,13 @@ after_empty (Remove line column units) text h =
 pub after_all-append : (ps qs : List Primitive) (text : List (List ℕ)) → after_all (ps ++ qs) text ≡ after_all qs (after_all ps text)
 after_all-append [] qs text = refl
 after_all-append (p ∷ ps) qs text = after_all-append ps qs (after p text)
+
+-- .. which fit if the others fit what the first leave
+pub FitInTurn-append : (ps qs : List Primitive) (text : List (List ℕ)) → FitInTurn ps text → FitInTurn qs (after_all ps text)
+    → FitInTurn (ps ++ qs) text
+FitInTurn-append [] qs text front back = back
+FitInTurn-append (p ∷ ps) qs text (fits, changes, front) back =
+    (fits, changes, FitInTurn-append ps qs (after p text) front back)
 
 -- the text after a primitive that fits has at least one line
 some_after : (p : Primitive) (text : List (List ℕ)) → IsText text → FitsText p text → 0 < length (after p text)

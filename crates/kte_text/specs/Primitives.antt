@@ -1,7 +1,7 @@
 -- The four primitives of a text: which fit it, and what they make of it. Source: KTextEditor's
 -- Document, whose editing goes by wrapLine, unwrapLine, insertText and removeText; the causes of a
 -- misfit and their order are this project's own.
-use Rattle.std.specs.Prelude.{ℕ, ◌+◌, ◌-◌, ◌^◌, ◌<◌, ◌≤◌, Bool, false, List, [], ◌∷◌, ◌++◌, length, take, drop, slice_set, find, nat_le, nat_lt, nat_eq, Option, Some, None, if◌then◌else◌}
+use Rattle.std.specs.Prelude.{◌≡◌, ℕ, ◌+◌, ◌-◌, ◌^◌, ◌<◌, ◌≤◌, Bool, false, List, [], ◌∷◌, ◌++◌, length, take, drop, slice_set, find, nat_le, nat_lt, nat_eq, Option, Some, None, if◌then◌else◌}
 use Rattle.std.specs.Option.{option_map, option_or}
 use Rattle.kte_text.specs.Units.{IsLine, IsBoundary, splits_pair}
 use Rattle.kte_text.specs.Texts.{line_at, size_of}
@@ -102,6 +102,13 @@ abbrev pub misfit : Primitive → List (List ℕ) → Option Misfit
 misfit primitive text =
     option_or (misplaced (line_of primitive) (columns_of primitive) text)
     (option_or (unjoinable primitive) (oversize (size_of (after primitive text))))
+
+-- the primitives fit one after another, the first of them this text, and none inserts or removes nothing
+abbrev pub FitInTurn : List Primitive → List (List ℕ) → Type 0
+FitInTurn [] text = Unit {0}
+FitInTurn (primitive ∷ primitives) text =
+    (misfit primitive text ≡ None) × (is_empty primitive ≡ false)
+    × FitInTurn primitives (after primitive text)
 
 -- What fits a text, without the causes: the line is there, it may be cut at the columns, a line that
 -- is joined has one before it, and there is room for what is added. A law says that this is where

@@ -2,7 +2,7 @@
 ghost use Rattle.std.specs.Prelude.{◌≡◌, ℕ, ◌<◌, ◌≤◌, ◌+◌, List, ◌++◌, length, take, drop, true, None};
 ghost use Rattle.kte_text.specs.Units.{IsLine, IsBoundary};
 ghost use Rattle.kte_text.specs.Texts.{IsText, line_at, size_of};
-ghost use Rattle.kte_text.specs.Primitives.{HasLine, FitsText, after, after_all, is_empty, misfit};
+ghost use Rattle.kte_text.specs.Primitives.{HasLine, FitsText, after, after_all, FitInTurn, is_empty, misfit};
 ghost use Rattle.kte_text.specs.declared.primitive.Primitive.{Primitive};
 ghost use Rattle.kte_text.specs.declared.primitive.Primitive.TheVariants.{Wrap, Unwrap, Insert, Remove};
 
@@ -73,8 +73,10 @@ pub fn empty_primitives_change_nothing()
     ensures { (p : Primitive) (text : List (List ℕ)) → is_empty p ≡ true → after p text ≡ text }
 {}
 
-/// The text after some primitives and then others.
+/// Some primitives and then others: the text after them, and that they fit one after another.
 pub fn primitives_follow_each_other()
-    ensures { (ps qs : List Primitive) (text : List (List ℕ))
+    ensures text { (ps qs : List Primitive) (text : List (List ℕ))
         → after_all (ps ++ qs) text ≡ after_all qs (after_all ps text) }
+    ensures fit { (ps qs : List Primitive) (text : List (List ℕ))
+        → FitInTurn ps text → FitInTurn qs (after_all ps text) → FitInTurn (ps ++ qs) text }
 {}

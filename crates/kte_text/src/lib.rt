@@ -6,18 +6,18 @@
 //!
 //! `line` has a line, `text` a text, and `lines` what else may hold the lines of a text.
 //! `primitive` has the primitives and their misfits, `batch` lists of them, and `fitting` judges
-//! them. `loading` reads a file. `laws` and `rows` are contracts alone: what holds of all texts
+//! them. `loading` reads a file. `laws` and `examples` are contracts alone: what holds of all texts
 //! and primitives, and worked examples.
 #![tactic(auto)]
 
 mod batch;
+pub mod examples;
 mod fitting;
 pub mod laws;
 mod line;
 mod lines;
 mod loading;
 mod primitive;
-pub mod rows;
 #[cfg(test)]
 mod tests;
 mod text;

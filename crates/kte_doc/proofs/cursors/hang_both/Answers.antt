@@ -11,9 +11,9 @@ unhang-requires c = come_hangs _ _ _ _ (ap (λ b. b.hung) c.in-Err.ensures.err �
 pub returns-in-Ok-clause-cursors : goal.returns-in-Ok-clause-cursors
 returns-in-Ok-clause-cursors c =
     come_both _ _ _ c.args.expand c.args.span c.in_ok-start.start c.in-Ok.end
-    (hanging c.span.inside.start c.start_on.result) (hanging c.span.inside.end c.end_on.result)
-    (ap (λ on. hanging c.span.inside.start on) c.start_on.ensures ∙ ap (λ (s : Ends). hanging s.start (start_on c.args.expand)) c.span.view_is)
-    (ap (λ on. hanging c.span.inside.end on) c.end_on.ensures ∙ ap (λ (s : Ends). hanging s.end (end_on c.args.expand)) c.span.view_is)
+    (hanging c.span.inside.start c.start.result) (hanging c.span.inside.end c.end.result)
+    (ap (λ on. hanging c.span.inside.start on) c.start.ensures ∙ ap (λ (s : Ends). hanging s.start (start_on c.args.expand)) c.span.view_is)
+    (ap (λ on. hanging c.span.inside.end on) c.end.ensures ∙ ap (λ (s : Ends). hanging s.end (end_on c.args.expand)) c.span.view_is)
     c.in_ok-start.ensures.free c.in_ok-start.ensures.hung c.in-Ok.ensures.free c.in-Ok.ensures.hung
 
 pub returns-in-Err-clause-err : goal.returns-in-Err-clause-err

@@ -1,5 +1,4 @@
-use Rattle.std.proofs.Common.{if◌then◌else◌, None, sym, ap, ◌∙◌, arith}
-use Rattle.std.proofs.lemmas.Bool.Decides.{nat_tests}
+use Rattle.std.proofs.Common.{if◌then◌else◌, None, sym, ap, ◌∙◌}
 use Rattle.std.specs.FinMap.{get}
 use Rattle.kte_ranges.specs.Cursors.{is_among}
 use Rattle.kte_doc.proofs.Hanging.{other_left, both_gone}

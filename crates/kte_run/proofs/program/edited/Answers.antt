@@ -1,4 +1,3 @@
-use Rattle.std.proofs.Common.{refl}
 use Rattle.kte_core.specs.Replay.{beginning, present}
 use Rattle.kte_run.specs.declared.TheConstants.{MOST_REVISIONS}
 use Rattle.kte_run.proofs.Replies.{edited-push, printed-push}

@@ -1,10 +1,9 @@
-use Rattle.std.proofs.Common.{◌≡◌, ℕ, ◌≤◌, length, List, Option, None, Some, Ok, Err, ◌∙◌, ap, sym, subst, refl, arith, if◌then◌else◌}
+use Rattle.std.proofs.Common.{ℕ, length, List, None, Some, Err, ◌∙◌, ap, sym, subst, refl, if◌then◌else◌}
 use Rattle.std.proofs.lemmas.Result.{err_from_is_err_and}
 use Rattle.kte_ranges.specs.declared.table.NoRange.{NoRange}
 use Rattle.std.specs.FinMap.{get, remove}
 use Rattle.kte_ranges.specs.Cursors.{is_among}
 use Rattle.kte_doc.specs.Inside.{farthest_at, CursorsFit}
-use Rattle.kte_doc.specs.Standings.{Standings}
 use Rattle.kte_doc.proofs.Looks.{found, not_found, was_there, was_not_there}
 use Rattle.kte_doc.proofs.Calls.{hangs_of, drop_fits, drop_ranges}
 use Rattle.kte_doc.proofs.Trails.{CameBy-drop}

@@ -1,4 +1,4 @@
-use Rattle.std.proofs.Common.{sym, ap, subst}
+use Rattle.std.proofs.Common.{sym, ap}
 use Rattle.kte_doc.proofs.Looks.{told}
 use Rattle.kte_doc.proofs.document.Doc.info.Goals as goal
 

@@ -1,4 +1,4 @@
-use Rattle.std.proofs.Common.{◌≡◌, ℕ, ◌+◌, ◌≤◌, List, length, ◌∙◌, ap, sym, subst, arith}
+use Rattle.std.proofs.Common.{ℕ, ◌+◌, List, length, ◌∙◌, ap, sym, subst, arith}
 use Rattle.std.specs.FinMap.{insert}
 use Rattle.kte_ranges.specs.declared.info.RangeInfo.{RangeInfo}
 use Rattle.kte_doc.specs.Standings.{new_range}

@@ -1,4 +1,4 @@
-use Rattle.std.proofs.Common.{◌∙◌, ap, sym, subst, ◌<◌, ◌≤◌, ℕ, arith}
+use Rattle.std.proofs.Common.{ap, subst, ◌<◌, ◌≤◌, ℕ}
 use Rattle.kte_doc.proofs.Looks.{seen_some}
 use Rattle.kte_doc.proofs.document.Doc.next_id.Goals as goal
 

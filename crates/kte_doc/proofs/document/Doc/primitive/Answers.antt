@@ -1,13 +1,12 @@
-use Rattle.std.proofs.Common.{◌≡◌, ℕ, ◌+◌, ◌≤◌, ◌^◌, List, length, Option, None, Some, Result, ◌∙◌, ap, sym, subst, refl, arith}
+use Rattle.std.proofs.Common.{◌≡◌, ℕ, ◌+◌, List, length, None, ◌∙◌, ap, sym, subst, arith}
 use Rattle.std.specs.Option.{option_map}
 use Rattle.std.specs.FinMap.{get}
 use Rattle.kte_text.specs.Primitives.{misfit, after}
-use Rattle.kte_text.specs.declared.primitive.Primitive.{Primitive}
 use Rattle.kte_place.specs.declared.entry.Entry.{Entry}
 use Rattle.kte_buffer.specs.Buffer.{is_home}
 use Rattle.kte_buffer.specs.Entries.{entry}
 use Rattle.kte_ranges.specs.Cursors.{StartsAreReady}
-use Rattle.kte_doc.specs.Standings.{Standings, moved_over}
+use Rattle.kte_doc.specs.Standings.{moved_over}
 use Rattle.kte_doc.specs.Inside.{standings_of, farthest_at, CursorsFit}
 use Rattle.kte_doc.proofs.Settled.{Carries-primitive, columns_fit, hang_now, ready_now, CursorsFit-settled, ranges_moved}
 use Rattle.kte_doc.proofs.Trails.{CameBy-primitive}
@@ -65,6 +64,7 @@ returns-clause-ranges c = ranges c
 pub returns-clause-came : goal.returns-clause-came
 returns-clause-came c loaded trail came =
     CameBy-primitive loaded trail c.args.primitive.now c.args.self.now _ came
+    (subst (λ d. misfit c.args.primitive.now d.text ≡ None) c.self.view_is (sym c.in_default.ensures)) c.requires.some
     (c.settle.ensures.rest ∙ c.apply-entry.ensures.text ∙ ap (after c.args.primitive.now) c.reserve.ensures.text
     ∙ ap (λ d. after c.args.primitive.now d.text) c.self.view_is)
     (ap (λ d. d.revision + 1) c.self.view_is)

@@ -1,4 +1,4 @@
-use Rattle.std.proofs.Common.{◌≡◌, ◌<◌, length, arith, ◌∙◌, ap, sym, subst, IsTrue, Some}
+use Rattle.std.proofs.Common.{◌<◌, length, arith, ◌∙◌, ap, sym, subst, IsTrue, Some}
 use Rattle.kte_place.specs.Ends.{Ends}
 use Rattle.kte_place.specs.Place.{is_at_or_before}
 use Rattle.kte_doc.proofs.Calls.{hangs_of}

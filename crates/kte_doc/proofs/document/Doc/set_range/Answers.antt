@@ -1,9 +1,8 @@
-use Rattle.std.proofs.Common.{◌≡◌, ℕ, ◌≤◌, List, length, Option, None, Some, ◌∙◌, ap, sym, subst, refl, arith}
-use Rattle.std.specs.Option.{option_map}
-use Rattle.std.specs.FinMap.{get, insert}
+use Rattle.std.proofs.Common.{◌≡◌, ℕ, List, length, ◌∙◌, ap, sym, subst, arith}
+use Rattle.std.specs.FinMap.{insert}
 use Rattle.kte_ranges.specs.declared.info.RangeInfo.{RangeInfo}
 use Rattle.kte_ranges.specs.Table.{reset}
-use Rattle.kte_doc.specs.Standings.{Standing, Standings, new_range, reset_to}
+use Rattle.kte_doc.specs.Standings.{Standing, reset_to}
 use Rattle.kte_doc.specs.Inside.{standing_of, standings_of, farthest_at, CursorsFit}
 use Rattle.kte_doc.proofs.Calls.{hangs_of, still_hangs, IsPut-set}
 use Rattle.kte_doc.proofs.Looks.{seen_none, seen_is, seen_same}

@@ -3,7 +3,7 @@ ghost use Rattle.std.specs.Prelude.{◌≡◌, List, [], ◌∷◌, ◌++◌, So
 ghost use Rattle.std.specs.Char.Utf16.{has_unpaired_surrogate};
 ghost use Rattle.kte_text.specs.Units.{splits_pair};
 ghost use Rattle.kte_text.specs.Texts.{size_of};
-ghost use Rattle.kte_text.specs.Primitives.{after, after_all, is_empty, misfit, oversize};
+ghost use Rattle.kte_text.specs.Primitives.{after, after_all, FitInTurn, is_empty, misfit, oversize};
 ghost use Rattle.kte_text.specs.Loading.{is_loadable, lines_of};
 ghost use Rattle.kte_text.specs.declared.primitive.Primitive.TheVariants.{Wrap, Unwrap, Insert, Remove};
 ghost use Rattle.kte_text.specs.declared.primitive.Misfit.TheVariants.{NoLine, NoColumn, SplitsPair, FirstLine, TooLarge};
@@ -28,6 +28,8 @@ pub fn texts_after()
     ensures remove { after (Remove 1 1 2) ([] ∷ codes "abcd" ∷ []) ≡ [] ∷ codes "ad" ∷ [] }
     ensures in_turn { after_all (Wrap 0 2 ∷ Insert 1 0 (codes "-") ∷ []) (codes "abc" ∷ [])
         ≡ codes "ab" ∷ codes "-c" ∷ [] }
+    ensures fit_in_turn { FitInTurn (Wrap 0 2 ∷ Insert 1 0 (codes "-") ∷ []) (codes "abc" ∷ []) }
+    ensures no_second_line { ¬ FitInTurn (Unwrap 1 ∷ Unwrap 1 ∷ []) (codes "a" ∷ codes "b" ∷ []) }
     ensures nothing { is_empty (Insert 0 0 []) ≡ true }
     ensures something { is_empty (Remove 0 0 1) ≡ false }
 {}

@@ -1,4 +1,4 @@
--- Short words for the worked rows.
+-- Short words for the worked examples.
 use Rattle.std.specs.Prelude.{ℕ, true, false, List, [], ◌∷◌}
 use Rattle.kte_text.specs.declared.primitive.Primitive.TheVariants.{Insert, Remove}
 use Rattle.kte_place.specs.Ends.{Ends}

@@ -1,4 +1,4 @@
--- Short words for the worked rows.
+-- Short words for the worked examples.
 use Rattle.std.specs.Prelude.{ℕ, false, List, [], ◌∷◌, codes}
 use Rattle.kte_text.specs.declared.primitive.Primitive.{Primitive}
 use Rattle.kte_text.specs.declared.primitive.Primitive.TheVariants.{Insert, Wrap}

@@ -1,7 +1,7 @@
 use Rattle.std.proofs.Common.{refl, codes, [], arith}
 use Rattle.std.proofs.lemmas.Fmt.{decimal_digit}
 use Rattle.kte_run.proofs.Ascii.{lossy-ascii}
-use Rattle.kte_run.proofs.rows.outputs.Goals as goal
+use Rattle.kte_run.proofs.examples.outputs.Goals as goal
 
 pub returns-clause-inserted : goal.returns-clause-inserted
 returns-clause-inserted c = rw (decimal_digit 1 (omega arith), decimal_digit 0 (omega arith), lossy-ascii (codes "hello!") refl, lossy-ascii [] refl) refl

@@ -1,9 +1,9 @@
-//! Worked rows of the definitions, proved by computation. Each function does nothing: its contract is the rows.
+//! Worked examples of the definitions, proved by computation. Each function does nothing: its contract is the examples.
 ghost use Rattle.std.specs.Prelude.{◌≡◌, [], ◌∷◌, codes, Some, None};
 ghost use Rattle.kte_run.specs.Words.{words_fault};
 ghost use Rattle.kte_run.specs.Script.{script_of, number_of, string_of};
 ghost use Rattle.kte_run.specs.Run.{printed};
-ghost use Rattle.kte_run.specs.Rows.{insertion, removal, left_range, mark};
+ghost use Rattle.kte_run.specs.Examples.{insertion, removal, left_range, mark};
 ghost use Rattle.kte_place.specs.Examples.{span};
 
 /// What scripts spell.

@@ -1,4 +1,4 @@
-//! Worked rows of the definitions, proved by computation.
+//! Worked examples of the definitions, proved by computation.
 ghost use Rattle.std.specs.Prelude.{◌≡◌, [], ◌∷◌, codes, Some, None};
 ghost use Rattle.kte_text.specs.declared.primitive.Primitive.TheVariants.{Insert, Wrap};
 ghost use Rattle.kte_text.specs.declared.primitive.Misfit.TheVariants.{NoLine, NoColumn};
@@ -7,10 +7,10 @@ ghost use Rattle.kte_place.specs.declared.span.Empty.TheVariants.{Allow, Void};
 ghost use Rattle.kte_place.specs.Examples.{span};
 ghost use Rattle.kte_core.specs.declared.reply.Reply.TheVariants as reply;
 ghost use Rattle.kte_core.specs.declared.reply.Refusal.TheVariants.{Misfit, RevisionsFull};
-ghost use Rattle.kte_core.specs.Rows.{hello, full, insertion, wrap, range, edits};
+ghost use Rattle.kte_core.specs.Examples.{hello, full, insertion, wrap, range, edits};
 
 /// What is answered in the text `hello` with an empty line behind it, and what the text is then.
-pub fn rows()
+pub fn answers()
     ensures inserted { answer hello (insertion 0 5 (33 ∷ []))
         ≡ edits 1 1 (Insert 0 5 (33 ∷ []) ∷ []) }
     ensures inserted_text { text_of (next hello (insertion 0 5 (33 ∷ []))).editing

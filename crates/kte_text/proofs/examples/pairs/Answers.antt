@@ -1,6 +1,6 @@
 use Rattle.std.proofs.Common.{refl}
 use Rattle.std.specs.Char.Utf16.{utf16_chars}
-use Rattle.kte_text.proofs.rows.pairs.Goals as goal
+use Rattle.kte_text.proofs.examples.pairs.Goals as goal
 
 pub returns-clause-paired : goal.returns-clause-paired
 unfolding utf16_chars
