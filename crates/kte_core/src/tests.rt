@@ -1,4 +1,4 @@
-use crate::{Command, Core, Refusal, Reply, Request, Step};
+use crate::{Command, Core, Event, Journal, Refusal, Reply, Request, Step};
 use kte_text::{Line, Misfit, Primitive, load};
 use std::alloc::Global;
 use std::test::Fail;
@@ -108,5 +108,22 @@ fn no_revision_is_made_past_the_limit(rt: HostRuntime) -> Result<(), Fail> {
     }
     assert_eq!(rt; shown(alloc, &core)?.as_str(), "|||");
     assert_eq!(rt; core.journal().len(), 3);
+    Ok(())
+}
+
+#[test]
+fn a_journal_keeps_its_events(rt: HostRuntime) -> Result<(), Fail> {
+    let mut journal = Journal::new(rt.alloc());
+    assert!(rt; journal.is_empty());
+    for id in [7, 8] {
+        journal.push(Event {
+            seat: 0,
+            request: Request::Cmd(Command::DropRange { id }),
+            reply: Reply::Dropped { id },
+        })?;
+    }
+    assert_eq!(rt; journal.len(), 2);
+    assert_eq!(rt; journal.get(0).reply, Reply::Dropped { id: 7 });
+    assert_eq!(rt; journal.get(1).reply, Reply::Dropped { id: 8 });
     Ok(())
 }
