@@ -11,9 +11,12 @@ use Rattle.slab.specs.Slab.{Slab, get, entries, entries_from, ContainsKey, Updat
 use Rattle.slab.proofs.SlabLemmas.{Updates-with_value}
 use Rattle.kte_place.specs.Cursors.{Hanging, with_place}
 use Rattle.kte_place.specs.declared.place.Place.{Place}
-use Rattle.kte_place.proofs.Hanging.{moves_one}
+use Rattle.kte_place.proofs.CallerLemmas.{moves_one}
 use Rattle.kte_buffer.specs.declared.cursors.Cursor.{Cursor}
 use Rattle.kte_buffer.specs.Cursors.{shown, hung_in}
+use Rattle.kte_buffer.specs.Buffer.{Contents}
+use Rattle.kte_buffer.specs.Inside.{contents_of}
+use Rattle.kte_buffer.specs.declared.buffer.Buffer.TheInside.{Inside}
 
 -- an entry of the slab as one of the map
 abbrev listed : (ℕ × Cursor) → (ℕ × Hanging)
@@ -97,3 +100,9 @@ hung_in-moved old hung id cursor place is read =
           now ∙ ap (option_map shown) e ∙ sym (moved ∙ rw (held) (grind (arith, nat_tests)))
       | inr other ↦ let e = made.others q other in now ∙ ap (option_map shown) e ∙ sym was ∙ sym (moved ∙ grind (arith, nat_tests))
     ])
+
+-- the contents after a change of the cursors alone
+pub contents_with : (buffer : Inside) (slab : Slab Cursor) (hung : FinMap nat_cmp Hanging) (contents : Contents)
+    → contents_of buffer ≡ contents → hung_in slab ≡ hung → contents_of (record buffer { cursors = slab }) ≡ record contents { hung = hung }
+contents_with buffer slab hung contents view is =
+    ap (λ (m : FinMap nat_cmp Hanging). record (contents_of buffer) { hung = m }) is ∙ ap (λ (b : Contents). record b { hung = hung }) view

@@ -5,16 +5,16 @@ use Rattle.std.proofs.lemmas.Bool.Decides.{nat_tests}
 use Rattle.std.proofs.lemmas.List.{length-map}
 use Rattle.std.proofs.lemmas.List.Elements.{All-head, All-tail}
 use Rattle.std.specs.Option.{option_map, IfSome, IsSome}
-use Rattle.std.specs.List.{list_any}
+use Rattle.std.specs.List.{list_any, Contains}
 use Rattle.std.specs.Ordering.{nat_cmp}
 use Rattle.std.specs.FinMap.{FinMap}
 use Rattle.std.specs.FinMap as finmap
-use Rattle.std.specs.declared.vec.Vec.{Vec}
 use Rattle.slab.specs.Slab.{Slab, get, with_value}
 use Rattle.slab.proofs.SlabLemmas.{Updates-with_value}
 use Rattle.kte_text.specs.Texts.{IsText, size_of}
 use Rattle.kte_text.specs.Primitives.{FitsText, HasLine, after, misfit}
-use Rattle.kte_text.specs.Laws.{length-le-size_of, FitsText-from_misfit, IsText-after}
+use Rattle.kte_text.specs.Flat.{given, taken_by}
+use Rattle.kte_text.proofs.PrimitiveLemmas.{length-le-size_of, FitsText-from_misfit, IsText-after}
 use Rattle.kte_text.specs.declared.primitive.Primitive.{Primitive}
 use Rattle.kte_place.specs.Entry.{PlaceFits}
 use Rattle.kte_place.specs.Cursors.{Hanging}
@@ -24,13 +24,13 @@ use Rattle.kte_buffer.specs.declared.cursors.Cursor.{Cursor}
 use Rattle.kte_buffer.specs.declared.buffer.Ready.{Ready}
 use Rattle.kte_buffer.specs.declared.buffer.Ready.TheVariants.{Nothing, ToApply, ToRehome}
 use Rattle.kte_buffer.specs.declared.buffer.Buffer.TheInside.{Inside}
-use Rattle.kte_buffer.specs.Entries.{entry, touched}
-use Rattle.kte_buffer.specs.Rows.{lines_in, added_by, taken_by}
+use Rattle.kte_buffer.specs.Entries.{entry, touched, is_touched}
+use Rattle.kte_buffer.specs.Rows.{lines_in}
 use Rattle.kte_buffer.specs.Cursors.{StandWithin, cursor_after, shown, hung_in, carried}
 use Rattle.kte_buffer.specs.Buffer.{is_home, ColumnsFit}
 use Rattle.kte_buffer.specs.Inside.{Keeps, IsSound}
 use Rattle.kte_buffer.proofs.HungLemmas.{get-hung, get-hung_in}
-use Rattle.kte_buffer.specs.Laws.{carried_within, touched_within}
+use Rattle.kte_buffer.proofs.CallerLemmas.{carried_within, touched_within}
 use Rattle.kte_buffer.proofs.ChangeLemmas.{size_of-after}
 
 -- what holds of all of the numbers holds of one among them
@@ -44,11 +44,18 @@ all_any n line (x ∷ xs) all any =
     ]
 
 -- a line that cursors can be moved to is there
-pub home_within : {Z Y : Type 0} (ready : Ready) (rows : Vec (Vec ℕ Z) Y) (fresh : Vec ℕ Z) (line : ℕ) → Keeps ready rows fresh
-    → IsTrue (is_home ready line) → line < length rows.items
-home_within Nothing rows fresh line keeps home = absurd (cc)
-home_within (ToApply entry) rows fresh line keeps home = absurd (cc)
-home_within (ToRehome entry) rows fresh line keeps home = all_any (length rows.items) line _ keeps home
+pub home_within : (ready : Ready) (buffer : Inside) (line : ℕ) → Keeps ready buffer → IsTrue (is_home ready line)
+    → line < length buffer.rows.items
+home_within Nothing buffer line keeps home = absurd (cc)
+home_within (ToApply entry) buffer line keeps home = absurd (cc)
+home_within (ToRehome entry) buffer line keeps home = all_any (length buffer.rows.items) line _ keeps home
+
+-- what a buffer is ready for needs no more as cursors change and no slot comes
+pub Keeps-cursors : (ready : Ready) (buffer : Inside) (slab : Slab Cursor) → length slab.slots ≤ length buffer.cursors.slots
+    → Keeps ready buffer → Keeps ready (record buffer { cursors = slab })
+Keeps-cursors Nothing buffer slab few keeps = tt
+Keeps-cursors (ToApply entry) buffer slab few keeps = (keeps.0, omega (arith, few, keeps.1))
+Keeps-cursors (ToRehome entry) buffer slab few keeps = keeps
 
 -- a cursor that is moved stands where it is moved to
 pub StandWithin-moved : (slab : Slab Cursor) (key lines : ℕ) (cursor : Cursor) (place : Place) → StandWithin slab lines
@@ -97,10 +104,24 @@ pub get-carried : (e : Entry) (old new : Slab Cursor) (hung : FinMap nat_cmp Han
 get-carried e old new hung is made id =
     get-hung_in new id ∙ ap (option_map shown) (made id) ∙ shown_after e (get old id) ∙ ap (option_map (carried e)) (sym (get-hung old hung id is))
 
+-- a listed cursor is listed as it is seen
+listed_shown : (e : Entry) (near : List ℕ) (id : ℕ) (o : Option Cursor)
+    → IfSome o (λ cursor. IsTrue (is_touched e cursor.place.line) → Contains near id)
+    → IfSome (option_map shown o) (λ cursor. IsTrue (is_touched e cursor.place.line) → Contains near id)
+listed_shown e near id None listed = tt
+listed_shown e near id (Some cursor) listed = listed
+
+pub get-listed : (e : Entry) (slab : Slab Cursor) (near : List ℕ)
+    → ((key : ℕ) → IfSome (get slab key) (λ cursor. IsTrue (is_touched e cursor.place.line) → Contains near key))
+    → (id : ℕ) → IfSome (finmap.get (hung_in slab) id) (λ cursor. IsTrue (is_touched e cursor.place.line) → Contains near id)
+get-listed e slab near listed id =
+    subst (λ o. IfSome o (λ cursor. IsTrue (is_touched e cursor.place.line) → Contains near id)) (sym (get-hung_in slab id))
+    (listed_shown e near id (get slab id) (listed id))
+
 -- a buffer is sound after a primitive
 pub IsSound-after : (p : Primitive) (old new : Inside) → IsSound old → misfit p (lines_in old.rows.items) ≡ None → HasLine p
     → lines_in new.rows.items ≡ after p (lines_in old.rows.items) → new.fresh.items ≡ []
-    → new.size + taken_by p ≡ old.size + added_by p
+    → new.size + taken_by p ≡ old.size + length (given p)
     → ((key : ℕ) → get new.cursors key ≡ option_map (cursor_after (entry p (lines_in old.rows.items))) (get old.cursors key))
     → new.ready ≡ ToRehome (entry p (lines_in old.rows.items)) → IsSound new
 IsSound-after p old new sound none has made empty size cursors ready =
@@ -114,6 +135,6 @@ IsSound-after p old new sound none has made empty size cursors ready =
       size = omega (arith, size, sound.size, size_of-after p text fits, ap size_of made);
       fresh = empty;
       cursors = subst (StandWithin new.cursors) (sym lines) (StandWithin-carried p text old.cursors new.cursors fits stand cursors);
-      ready = subst (λ ready. Keeps ready new.rows new.fresh) (sym ready)
+      ready = subst (λ ready. Keeps ready new) (sym ready)
           (subst (λ n. All (λ line. line < n) (touched (entry p text))) (sym lines) (touched_within p text fits));
     }

@@ -6,17 +6,17 @@ use Rattle.std.specs.Option.{option_map, IsSome, IfSome}
 use Rattle.std.specs.Ordering.{nat_cmp}
 use Rattle.std.specs.FinMap.{FinMap, empty, insert, remove, get, gets}
 use Rattle.kte_place.specs.Cursors.{Hanging}
-use Rattle.kte_place.specs.declared.place.TheConstants.{GREATEST_COLUMN}
+use Rattle.kte_place.specs.declared.place.TheConstants.{MAX_COLUMN}
 use Rattle.kte_buffer.specs.Buffer.{ColumnsFit}
 
 -- the column of a cursor can be carried
 abbrev ColumnFits : Option Hanging → Type 0
-ColumnFits o = IfSome o (λ cursor. cursor.place.column ≤ GREATEST_COLUMN)
+ColumnFits o = IfSome o (λ cursor. cursor.place.column ≤ MAX_COLUMN)
 
 pub ColumnsFit-empty : ColumnsFit empty
 ColumnsFit-empty id = let none : get (empty {X = Hanging} {R = nat_cmp}) id ≡ None = grind (arith, gets) in subst ColumnFits (sym none) tt
 
-pub ColumnsFit-insert : (m : FinMap nat_cmp Hanging) (id : ℕ) (h : Hanging) → ColumnsFit m → h.place.column ≤ GREATEST_COLUMN
+pub ColumnsFit-insert : (m : FinMap nat_cmp Hanging) (id : ℕ) (h : Hanging) → ColumnsFit m → h.place.column ≤ MAX_COLUMN
     → ColumnsFit (insert m id h)
 ColumnsFit-insert m id h fit column = λ other.
     elim (cases_eq other id) [

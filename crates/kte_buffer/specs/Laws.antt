@@ -1,72 +1,61 @@
--- What holds of every entry of a primitive that fits its text.
-use Rattle.std.proofs.Common.{◌≡◌, ℕ, ◌+◌, ◌-◌, ◌<◌, ◌≤◌, List, [], ◌∷◌, length, All, sym, arith}
-use Rattle.std.proofs.lemmas.List.Sums.{sum_by-take-drop, sum_by-drop_more}
-use Rattle.std.proofs.lemmas.List.Elements.{All-nil, All-cons}
-use Rattle.kte_text.specs.Texts.{IsText, line_at, size_of}
+-- What ties carrying to the text as one list: each place of a text to its offset, and each carrying
+-- to a splice of the list.
+use Rattle.std.specs.Prelude.{◌≡◌, ℕ, ◌-◌, ◌<◌, ◌≤◌, List, length, slice_get, IsTrue, ◌↔◌}
 use Rattle.kte_text.specs.Primitives.{FitsText, after}
-use Rattle.kte_text.specs.Laws.{length-after_wrap, length-after_unwrap, length-after_insert, length-after_remove}
+use Rattle.kte_text.specs.Flat.{flatten, splice_at, taken_by, given}
 use Rattle.kte_text.specs.declared.primitive.Primitive.{Primitive}
-use Rattle.kte_text.specs.declared.primitive.Primitive.TheVariants.{Wrap, Unwrap, Insert, Remove}
-use Rattle.kte_place.specs.Entry.{EntryFits, carry, lines_after}
-use Rattle.kte_place.specs.Laws.{IsWithin}
+use Rattle.kte_place.specs.Place.{is_at_or_before}
+use Rattle.kte_place.specs.Entry.{carry}
 use Rattle.kte_place.specs.declared.place.Place.{Place}
 use Rattle.kte_place.specs.declared.place.OnInsert.{OnInsert}
-use Rattle.kte_place.proofs.Carrying.{stays_in_text}
-use Rattle.kte_buffer.specs.Entries.{entry, touched}
+use Rattle.kte_place.specs.declared.place.OnInsert.TheVariants.{Stay, Move}
+use Rattle.kte_buffer.specs.Entries.{entry}
+use Rattle.kte_buffer.specs.Offset.{IsInText, offset, shift, Takes}
 
--- no line is longer than its text
-pub length-line_at : (text : List (List ℕ)) (n : ℕ) → n < length text → length (line_at text n) ≤ size_of text
-length-line_at text n within = omega (arith, sum_by-take-drop length text n, sum_by-drop_more length text n [] within)
+-- the order of two places is that of their offsets
+abbrev pub IsOrderOfOffsets : Type 0
+IsOrderOfOffsets =
+    (text : List (List ℕ)) (p q : Place) → IsInText text p → IsInText text q
+    → IsTrue (is_at_or_before p q) ↔ (offset text p ≤ offset text q)
 
--- the entry of a primitive that fits can be carried over
-pub EntryFits-entry : (p : Primitive) (text : List (List ℕ)) → IsText text → FitsText p text → EntryFits (entry p text)
-EntryFits-entry (Wrap line column) text whole (inside, at, small) =
-    record { length = omega arith; old = omega arith; joined = λ e. absurd (cc) }
-EntryFits-entry (Unwrap line) text whole (joined, inside) =
-    record { length = omega arith; old = omega (arith, length-line_at text (line - 1) (omega arith), whole.small); joined = λ e. omega arith }
-EntryFits-entry (Insert line column units) text whole (inside, at, small) =
-    record { length = omega arith; old = omega (arith, length-line_at text line inside, whole.small); joined = λ e. absurd (cc) }
-EntryFits-entry (Remove line column units) text whole (inside, at, end) =
-    record { length = omega (arith, end.within, length-line_at text line inside, whole.small); old = omega arith; joined = λ e. absurd (cc) }
+-- two places with one offset are one place
+abbrev pub IsKnownByOffset : Type 0
+IsKnownByOffset =
+    (text : List (List ℕ)) (p q : Place) → IsInText text p → IsInText text q → offset text p ≡ offset text q → p ≡ q
 
--- it tells of a line that is there
-pub IsWithin-entry : (p : Primitive) (text : List (List ℕ)) → FitsText p text → IsWithin (length text) (entry p text)
-IsWithin-entry (Wrap line column) text (inside, at, small) = record { line = inside; joined = λ e. absurd (cc) }
-IsWithin-entry (Unwrap line) text (joined, inside) = record { line = inside; joined = λ e. omega arith }
-IsWithin-entry (Insert line column units) text (inside, at, small) = record { line = inside; joined = λ e. absurd (cc) }
-IsWithin-entry (Remove line column units) text (inside, at, end) = record { line = inside; joined = λ e. absurd (cc) }
+-- every number up to the length of the list is the offset of a place
+abbrev pub HasPlace : Type 0
+HasPlace =
+    (text : List (List ℕ)) (x : ℕ) → 0 < length text → x ≤ length (flatten text)
+    → (p : Place) × IsInText text p × (offset text p ≡ x)
 
--- the number of lines after a primitive that fits, by its entry
-pub lines_after-entry : (p : Primitive) (text : List (List ℕ)) → FitsText p text
-    → lines_after (entry p text).kind (length text) ≡ length (after p text)
-lines_after-entry (Wrap line column) text (inside, at, small) = sym (length-after_wrap line column text inside)
-lines_after-entry (Unwrap line) text (joined, inside) = omega (arith, length-after_unwrap line text joined inside)
-lines_after-entry (Insert line column units) text (inside, at, small) = sym (length-after_insert line column units text)
-lines_after-entry (Remove line column units) text (inside, at, end) = sym (length-after_remove line column units text)
+-- a place in the text is carried to one in the text after
+abbrev pub StaysInside : Type 0
+StaysInside =
+    (p : Primitive) (text : List (List ℕ)) (place : Place) (on : OnInsert) → FitsText p text → IsInText text place
+    → IsInText (after p text) (carry (entry p text) place on)
 
--- a place on a line of the text is carried to one on a line of the text after
-pub carried_within : (p : Primitive) (text : List (List ℕ)) (place : Place) (on : OnInsert) → FitsText p text → place.line < length text
-    → (carry (entry p text) place on).line < length (after p text)
-carried_within p text place on fits within =
-    omega (
-      arith,
-      stays_in_text (length text) (entry p text) place on (IsWithin-entry p text fits) within,
-      lines_after-entry p text fits,
-    )
+-- the offset of a place is shifted by the splice
+abbrev pub CarriesOffsets : Type 0
+CarriesOffsets =
+    (p : Primitive) (text : List (List ℕ)) (place : Place) (on : OnInsert) → FitsText p text → IsInText text place
+    → offset (after p text) (carry (entry p text) place on)
+    ≡ shift (splice_at p text) (taken_by p) (length (given p)) on (offset text place)
 
--- the touched lines are there after the primitive
-pub touched_within : (p : Primitive) (text : List (List ℕ)) → FitsText p text
-    → All (λ line. line < length (after p text)) (touched (entry p text))
-touched_within (Wrap line column) text (inside, at, small) =
-    let n = length-after_wrap line column text inside in
-    let P : ℕ → Type 0 = λ k. k < length (after (Wrap line column) text) in
-    All-cons P line ((line + 1) ∷ []) (omega (arith, n)) (All-cons P (line + 1) [] (omega (arith, n)) (All-nil P))
-touched_within (Unwrap line) text (joined, inside) =
-    let P : ℕ → Type 0 = λ k. k < length (after (Unwrap line) text) in
-    All-cons P (line - 1) [] (omega (arith, length-after_unwrap line text joined inside)) (All-nil P)
-touched_within (Insert line column units) text (inside, at, small) =
-    let P : ℕ → Type 0 = λ k. k < length (after (Insert line column units) text) in
-    All-cons P line [] (omega (arith, length-after_insert line column units text)) (All-nil P)
-touched_within (Remove line column units) text (inside, at, end) =
-    let P : ℕ → Type 0 = λ k. k < length (after (Remove line column units) text) in
-    All-cons P line [] (omega (arith, length-after_remove line column units text)) (All-nil P)
+-- a Move cursor stays before the same unit, or at the end of the text, unless that unit is taken
+-- out
+abbrev pub KeepsNext : Type 0
+KeepsNext =
+    (p : Primitive) (text : List (List ℕ)) (place : Place) → FitsText p text → IsInText text place
+    → ¬ Takes p text (offset text place)
+    → slice_get (flatten (after p text)) (offset (after p text) (carry (entry p text) place Move))
+    ≡ slice_get (flatten text) (offset text place)
+
+-- a Stay cursor that is not at the start of the text stays after the same unit, unless that unit is
+-- taken out
+abbrev pub KeepsLast : Type 0
+KeepsLast =
+    (p : Primitive) (text : List (List ℕ)) (place : Place) → FitsText p text → IsInText text place
+    → 0 < offset text place → ¬ Takes p text (offset text place - 1)
+    → slice_get (flatten (after p text)) (offset (after p text) (carry (entry p text) place Stay) - 1)
+    ≡ slice_get (flatten text) (offset text place - 1)

@@ -1,7 +1,7 @@
-//! One line of a text, in a vector that may have room for further units.
+//! One line of a text, in a vector that may have room for more units.
 ghost use Rattle.std.specs.Prelude.{◌≡◌, ◌+◌, ◌-◌, ◌≤◌, [], ◌++◌, length, take, drop, vec_len, vec_capacity};
 
-/// Inserts units at a column. The room for them is there.
+/// Inserts units at a column. There is room for them.
 pub(crate) fn insert(row: &mut Vec<u16>, column: usize, units: &[u16])
     requires column { column ≤ vec_len row.old }
     requires room { vec_len row.old + length units.now ≤ vec_capacity row.old }
@@ -11,7 +11,7 @@ pub(crate) fn insert(row: &mut Vec<u16>, column: usize, units: &[u16])
     row[column..].rotate_right(units.len());
 }
 
-/// Removes so many units from a column on.
+/// Removes `count` units from a column on.
 pub(crate) fn remove(row: &mut Vec<u16>, column: usize, count: usize)
     requires { column + count ≤ vec_len row.old }
     ensures { row.new.items ≡ take column row.old.items ++ drop (column + count) row.old.items }
@@ -19,7 +19,7 @@ pub(crate) fn remove(row: &mut Vec<u16>, column: usize, count: usize)
     drop(row.drain(column..column + count));
 }
 
-/// Moves the units from a column on into an empty row, which has room for them.
+/// Moves the units from a column on into an empty row. There is room for them.
 pub(crate) fn split(row: &mut Vec<u16>, column: usize, tail: &mut Vec<u16>)
     requires column { column ≤ vec_len row.old }
     requires empty { tail.old.items ≡ [] }
@@ -31,7 +31,7 @@ pub(crate) fn split(row: &mut Vec<u16>, column: usize, tail: &mut Vec<u16>)
     row.truncate(column);
 }
 
-/// Appends units. The room for them is there.
+/// Appends units. There is room for them.
 pub(crate) fn append(row: &mut Vec<u16>, units: &[u16])
     requires room { vec_len row.old + length units.now ≤ vec_capacity row.old }
     ensures { row.new.items ≡ row.old.items ++ units.now }

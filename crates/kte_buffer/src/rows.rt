@@ -1,10 +1,11 @@
-//! The lines of a text, a row each. Rows have room of their own for further units.
+//! The lines of a text as rows: vectors of units, each with its own capacity.
 ghost use Rattle.std.specs.Prelude.{◌≡◌, ◌+◌, ◌-◌, ◌≤◌, ◌<◌, [], ◌∷◌, ◌++◌, length, take, drop, slice_set, vec_len, vec_capacity, OnOk, IfOk};
 ghost use Rattle.kte_text.specs.Texts.{IsText};
 ghost use Rattle.kte_text.specs.Primitives.{FitsText, HasLine, after};
-ghost use Rattle.kte_text.specs.declared.TheConstants.{GREATEST_SIZE};
+ghost use Rattle.kte_text.specs.Flat.{taken_by, given};
+ghost use Rattle.kte_text.specs.declared.TheConstants.{MAX_SIZE};
 ghost use Rattle.kte_buffer.specs.Entries.{entry};
-ghost use Rattle.kte_buffer.specs.Rows.{lines_in, row_at, capacity_at, HasRoom, OnlyGrows, taken_by, added_by};
+ghost use Rattle.kte_buffer.specs.Rows.{lines_in, row_at, capacity_at, HasRoom, OnlyGrows};
 
 use crate::row;
 use kte_place::{Entry, EntryKind};
@@ -12,7 +13,7 @@ use kte_text::{Line, Primitive, Text};
 use std::alloc::{AllocError, Global};
 use std::mem;
 
-/// Inserts units into a row, which has room for them.
+/// Inserts units into a row. There is room for them.
 pub(crate) fn insert_units(rows: &mut Vec<Vec<u16>>, line: usize, column: usize, units: &[u16])
     requires line { line < vec_len rows.old }
     requires column { column ≤ length (row_at rows.old.items line) }
@@ -25,7 +26,7 @@ pub(crate) fn insert_units(rows: &mut Vec<Vec<u16>>, line: usize, column: usize,
     row::insert(&mut rows[line], column, units);
 }
 
-/// Removes so many units of a row from a column on.
+/// Removes `count` units of a row from a column on.
 pub(crate) fn remove_units(rows: &mut Vec<Vec<u16>>, line: usize, column: usize, count: usize)
     requires line { line < vec_len rows.old }
     requires end { column + count ≤ length (row_at rows.old.items line) }
@@ -36,8 +37,8 @@ pub(crate) fn remove_units(rows: &mut Vec<Vec<u16>>, line: usize, column: usize,
     row::remove(&mut rows[line], column, count);
 }
 
-/// Cuts a row at a column. The units behind it go into the fresh row, which is empty and has room for them, and which
-/// then stands after the row. There is room for a further row.
+/// Cuts a row at a column. The units after it move into the fresh row, which is empty and has room
+/// for them, and which is then inserted after the row. There is room for another row.
 pub(crate) fn wrap(rows: &mut Vec<Vec<u16>>, line: usize, column: usize, mut fresh: Vec<u16>)
     requires line { line < vec_len rows.old }
     requires column { column ≤ length (row_at rows.old.items line) }
@@ -52,7 +53,7 @@ pub(crate) fn wrap(rows: &mut Vec<Vec<u16>>, line: usize, column: usize, mut fre
     rows.insert(line + 1, fresh).unwrap();
 }
 
-/// Joins a row to the end of the row before it, which has room for its units.
+/// Joins a row to the end of the row before it. There is room for its units.
 pub(crate) fn unwrap(rows: &mut Vec<Vec<u16>>, line: usize)
     requires some { 0 < line }
     requires line { line < vec_len rows.old }
@@ -66,7 +67,7 @@ pub(crate) fn unwrap(rows: &mut Vec<Vec<u16>>, line: usize)
     row::append(&mut rows[line - 1], tail.as_slice());
 }
 
-/// What is kept of a primitive that is made of these rows.
+/// Returns the entry of a primitive that is applied to these rows.
 pub(crate) fn entry_of(rows: &[Vec<u16>], primitive: &Primitive) -> Entry
     requires { FitsText primitive.now (lines_in rows.now) }
     ensures { result ≡ entry primitive.now (lines_in rows.now) }
@@ -107,7 +108,7 @@ pub(crate) fn entry_of(rows: &[Vec<u16>], primitive: &Primitive) -> Entry
     }
 }
 
-/// Makes room for further units in a row.
+/// Makes room for `added` more units in a row.
 fn grow(rows: &mut Vec<Vec<u16>>, line: usize, added: usize) -> Result<(), AllocError>
     requires { line < vec_len rows.old }
     ensures ok { OnOk result
@@ -117,7 +118,7 @@ fn grow(rows: &mut Vec<Vec<u16>>, line: usize, added: usize) -> Result<(), Alloc
     rows[line].try_reserve(added)
 }
 
-/// Makes room for a primitive. No room gets less, after an error neither.
+/// Makes room for a primitive. Capacity never shrinks, even on error.
 pub(crate) fn reserve(
     rows: &mut Vec<Vec<u16>>,
     fresh: &mut Vec<u16>,
@@ -145,8 +146,8 @@ pub(crate) fn reserve(
     }
 }
 
-/// Makes a primitive. The room for it is there.
-pub(crate) fn make(rows: &mut Vec<Vec<u16>>, fresh: &mut Vec<u16>, primitive: &Primitive)
+/// Applies a primitive. There is room for it.
+pub(crate) fn apply(rows: &mut Vec<Vec<u16>>, fresh: &mut Vec<u16>, primitive: &Primitive)
     requires fits { FitsText primitive.now (lines_in rows.old.items) }
     requires room { HasRoom (entry primitive.now (lines_in rows.old.items)) rows.old fresh.old }
     requires empty { fresh.old.items ≡ [] }
@@ -172,11 +173,11 @@ pub(crate) fn make(rows: &mut Vec<Vec<u16>>, fresh: &mut Vec<u16>, primitive: &P
     }
 }
 
-/// The size of a text after a primitive, from the size before it.
+/// Returns the size of a text after a primitive, from its size before.
 pub(crate) fn size_after(size: u64, primitive: &Primitive) -> u64
-    requires room { size + added_by primitive.now ≤ GREATEST_SIZE }
+    requires room { size + length (given primitive.now) ≤ MAX_SIZE }
     requires there { taken_by primitive.now ≤ size }
-    ensures { result + taken_by primitive.now ≡ size + added_by primitive.now }
+    ensures { result + taken_by primitive.now ≡ size + length (given primitive.now) }
 {
     match primitive {
         Primitive::Wrap { .. } => size + 1,
@@ -186,7 +187,7 @@ pub(crate) fn size_after(size: u64, primitive: &Primitive) -> u64
     }
 }
 
-/// The rows of lines.
+/// Returns the rows of these lines.
 pub(crate) fn of_lines(alloc: Global, lines: Vec<Line>) -> Result<Vec<Vec<u16>>, AllocError>
     ensures { IfOk result (λ rows. lines_in rows.items ≡ lines.items) }
 {
@@ -197,7 +198,7 @@ pub(crate) fn of_lines(alloc: Global, lines: Vec<Line>) -> Result<Vec<Vec<u16>>,
     Ok(rows)
 }
 
-/// The text of rows.
+/// Returns a copy of the text of these rows.
 pub(crate) fn copy_text(alloc: Global, rows: &[Vec<u16>]) -> Result<Text, AllocError>
     requires { IsText (lines_in rows.now) }
     ensures { IfOk result (λ text. text ≡ lines_in rows.now) }

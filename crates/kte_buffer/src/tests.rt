@@ -6,7 +6,7 @@ ghost use Rattle.kte_buffer.specs.Buffer.{ColumnsFit};
 ghost use Rattle.kte_buffer.specs.Cursors.{hanging};
 
 use crate::Buffer;
-use kte_place::{Cursors, Entry, EntryKind, GREATEST_COLUMN, OnInsert, Place};
+use kte_place::{Cursors, Entry, EntryKind, MAX_COLUMN, OnInsert, Place};
 use kte_text::{Line, Lines, Misfit, Primitive, Text, load};
 use std::alloc::{AllocError, Global};
 use std::process::Abort;
@@ -69,11 +69,21 @@ fn hang(
     ensures columns { ColumnsFit buffer.new.hung }
 {
     assert!(rt; place.line < buffer.lines());
-    assert!(rt; place.column <= GREATEST_COLUMN);
+    assert!(rt; place.column <= MAX_COLUMN);
     Ok(buffer.hang(place, on_insert)?)
 }
 
-// Makes a primitive where a cursor that stays and one that moves hang at the place, and tells where they then stand.
+// The numbers of the near cursors.
+fn near<C: Cursors>(alloc: Global, cursors: &C) -> Result<Vec<u64>, AllocError> {
+    let mut near = Vec::new(alloc);
+    for n in 0..cursors.near_len() {
+        near.push(cursors.near_at(n))?;
+    }
+    Ok(near)
+}
+
+// Hangs a cursor that stays and one that moves at the place, applies a primitive, and returns its
+// entry and the two cursors' places.
 fn carried(
     rt: &impl Abort,
     buffer: &mut Buffer,
@@ -92,7 +102,7 @@ fn carried(
     Ok((entry, buffer.place(stays), buffer.place(moves)))
 }
 
-// Each place of the two lines goes to the one of those behind it that its kind goes to.
+// Checks for each place of the two lines where a cursor that stays and one that moves go.
 fn check_places(
     rt: &(impl Abort + AllocGlobal),
     primitive: &Primitive,
@@ -109,7 +119,7 @@ fn check_places(
     Ok(())
 }
 
-// What the two lines become, and what is kept of it.
+// Checks what the two lines become, and the entry.
 fn check_text(
     rt: &(impl Abort + AllocGlobal),
     primitive: &Primitive,
@@ -127,7 +137,7 @@ fn check_text(
 }
 
 #[test]
-fn a_cut_takes_what_stands_behind_it(rt: HostRuntime) -> Result<(), Fail> {
+fn a_wrap_moves_what_follows_it(rt: HostRuntime) -> Result<(), Fail> {
     let wrap = Primitive::Wrap { line: 0, column: 3 };
     let entry = Entry {
         kind: EntryKind::Wrap,
@@ -151,7 +161,7 @@ fn a_cut_takes_what_stands_behind_it(rt: HostRuntime) -> Result<(), Fail> {
 }
 
 #[test]
-fn a_joined_line_stands_behind_the_other(rt: HostRuntime) -> Result<(), Fail> {
+fn a_joined_line_follows_the_other(rt: HostRuntime) -> Result<(), Fail> {
     let unwrap = Primitive::Unwrap { line: 1 };
     let entry = Entry {
         kind: EntryKind::Unwrap,
@@ -175,7 +185,7 @@ fn a_joined_line_stands_behind_the_other(rt: HostRuntime) -> Result<(), Fail> {
 }
 
 #[test]
-fn an_insertion_moves_what_stands_behind_it(rt: HostRuntime) -> Result<(), Fail> {
+fn an_insertion_moves_what_follows_it(rt: HostRuntime) -> Result<(), Fail> {
     let insert = Primitive::Insert {
         line: 0,
         column: 3,
@@ -244,7 +254,7 @@ fn a_pair_is_inserted_and_not_split(rt: HostRuntime) -> Result<(), Fail> {
 }
 
 #[test]
-fn what_changes_nothing_is_judged_as_any_other(rt: HostRuntime) -> Result<(), Fail> {
+fn empty_primitives_are_judged_like_any_other(rt: HostRuntime) -> Result<(), Fail> {
     let buffer = two_lines(rt.alloc())?;
     for (line, column, want) in [
         (0, 6, Ok(())),
@@ -280,5 +290,17 @@ fn a_cursor_is_taken_out_alone(rt: HostRuntime) -> Result<(), Fail> {
     buffer.unhang(gone);
     assert_ne!(rt; kept, gone);
     assert_eq!(rt; buffer.place(kept), at(1, 4));
+    Ok(())
+}
+
+#[test]
+fn cursors_on_touched_lines_are_near(rt: HostRuntime) -> Result<(), Fail> {
+    let mut buffer = two_lines(rt.alloc())?;
+    let later = hang(&rt, &mut buffer, at(1, 2), OnInsert::Stay)?;
+    let wrap = Primitive::Wrap { line: 0, column: 3 };
+    carried(&rt, &mut buffer, &wrap, at(0, 3))?;
+    let near = near(rt.alloc(), &buffer)?;
+    assert_eq!(rt; near.len(), 2);
+    assert!(rt; !near.as_slice().contains(&later));
     Ok(())
 }

@@ -1,3 +1,4 @@
-pub mod ReplayLemmas
+mod Examples
 pub mod RangeLemmas
-pub mod StepLemmas
+pub mod EditLemmas
+pub mod ReplayLemmas

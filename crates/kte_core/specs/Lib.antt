@@ -1,5 +1,5 @@
 pub mod React
-pub mod Replay
 pub mod Requests
-pub mod Holds
-pub mod Examples
+pub mod Replay
+pub mod Shown
+pub mod Inside

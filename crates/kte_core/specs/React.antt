@@ -1,12 +1,13 @@
--- What a request makes of the present state, and what is replied. Source: KTextEditor's Document and MovingRange; the order
--- of refusals, and that numbers of ranges rise from 1, are this project's own.
-use Rattle.std.specs.Prelude.{ℕ, ◌+◌, List, [], ◌∷◌, ◌++◌, length, nat_le, Option, Some, None, if◌then◌else◌}
-use Rattle.std.specs.Option.{option_map}
+-- What a request makes of the present state, and what is replied. Source: KTextEditor's Document
+-- and MovingRange; the order of refusals, and that numbers of ranges rise from 1, are this
+-- project's own.
+use Rattle.std.specs.Prelude.{ℕ, ◌+◌, List, [], ◌∷◌, ◌++◌, length, nat_lt, Option, Some, None, if◌then◌else◌}
+use Rattle.std.specs.Option.{option_map, option_or}
 use Rattle.std.specs.Ordering.{nat_cmp}
 use Rattle.std.specs.FinMap.{FinMap, get, insert, remove}
 use Rattle.kte_text.specs.Primitives.{is_empty, misfit, after_all}
 use Rattle.kte_text.specs.declared.primitive.Primitive.{Primitive}
-use Rattle.kte_text.specs.declared.primitive.Misfit.{Misfit as Cause}
+use Rattle.kte_text.specs.declared.loading.Loaded.{Loaded}
 use Rattle.kte_place.specs.Ends.{Ends}
 use Rattle.kte_place.specs.declared.span.Expand.{Expand}
 use Rattle.kte_place.specs.declared.span.Empty.{Empty}
@@ -23,15 +24,15 @@ use Rattle.kte_core.specs.declared.reply.Reply.TheVariants as reply
 use Rattle.kte_core.specs.declared.reply.Refusal.{Refusal}
 use Rattle.kte_core.specs.declared.reply.Refusal.TheVariants.{Misfit, RevisionsFull, NoRange}
 
--- What is edited: the loaded text, how many primitives may be made, and those made since, in order
+-- What is edited: what was loaded, how many primitives may be made, and those made since, in order
 pub record Editing : Type 0 where
-  pub loaded : List (List ℕ)
+  pub loaded : Loaded
   pub limit : ℕ
   pub trail : List Primitive
 
 -- the present text
 abbrev pub text_of : Editing → List (List ℕ)
-text_of editing = after_all editing.trail editing.loaded
+text_of editing = after_all editing.trail editing.loaded.text
 
 -- the present revision: how many primitives have been made
 abbrev pub revision_of : Editing → ℕ
@@ -44,9 +45,9 @@ pub record Range : Type 0 where
   pub kind : RangeKind
   pub origin : Origin
 
--- where a range stands now: the trail since its origin tells it
+-- where a range stands now: the trail since its origin determines it
 abbrev pub stands : Editing → Range → Option Ends
-stands editing range = stand editing.loaded editing.trail range.expand range.empty range.origin
+stands editing range = stand editing.loaded.text editing.trail range.expand range.empty range.origin
 
 -- a range that is made now
 abbrev pub made_now : Editing → Ends → Expand → Empty → RangeKind → Range
@@ -57,101 +58,111 @@ made_now editing span expand empty kind = record {
   origin = record { revision = revision_of editing; span = span };
 }
 
--- a range that is set now: all else of it stays
+-- a range that is set now: only its origin changes
 abbrev pub set_now : Editing → Ends → Range → Range
 set_now editing span range = made_now editing span range.expand range.empty range.kind
 
--- What a core holds: what is edited, the ranges by their numbers, and the number that the next one gets
+-- What a core holds: what is edited, the ranges by their numbers, and the number that the next
+-- range gets
 pub record State : Type 0 where
   pub editing : Editing
   pub ranges : FinMap nat_cmp Range
   pub next_id : ℕ
 
--- a reply, and the primitives that were made for it
-pub record Answer : Type 0 where
+-- the steps of an edit: an insertion or a removal of nothing is no step
+abbrev pub steps_of : Primitive → List Primitive
+steps_of step = if is_empty step then [] else step ∷ []
+
+-- Why an edit is refused in a text, at a revision, under a limit of revisions: for its misfit,
+-- which is judged for an edit of no steps too; then because its steps would lead past the limit.
+-- `None` where it is made
+abbrev pub refusal_of : List (List ℕ) → ℕ → ℕ → Primitive → Option Refusal
+refusal_of text revision limit step =
+    option_or (option_map Misfit (misfit step text))
+    (if nat_lt limit (revision + length (steps_of step)) then Some (RevisionsFull revision)
+    else None)
+
+-- What comes of an edit: the reply, the primitives that were made, and what is edited after it
+pub record Edit : Type 0 where
   pub reply : Reply
   pub made : List Primitive
+  pub after : Editing
 
--- a reply for which no primitive was made
-abbrev pub replied : Reply → Answer
-replied reply = record { reply = reply; made = [] }
-
--- a refusal
-abbrev pub refused : Refusal → Answer
-refused refusal = replied (reply.Refused refusal)
-
--- an edit of so many steps, outside of any transaction
-abbrev pub edited : ℕ → List Primitive → Answer
-edited revision made = record { reply = reply.Edited (length made) (revision + length made) 0; made = made }
-
--- the answer to a step that has no misfit
-abbrev pub answer_fitting : ℕ → ℕ → Primitive → Answer
-answer_fitting revision limit step =
-    if is_empty step then edited revision [] else
-    if nat_le limit revision then refused (RevisionsFull revision) else
-    edited revision (step ∷ [])
-
-abbrev pub answer_judged : Option Cause → ℕ → ℕ → Primitive → Answer
-answer_judged (Some cause) revision limit step = refused (Misfit cause)
-answer_judged None revision limit step = answer_fitting revision limit step
-
--- The answer to a step in a text, at a revision: refused for its misfit, and then where no further revision may be made.
--- A step that inserts or removes nothing is judged too, and makes no primitive
-abbrev pub answer_put : List (List ℕ) → ℕ → ℕ → Primitive → Answer
-answer_put text revision limit step = answer_judged (misfit step text) revision limit step
-
--- where a range stands, or that there is none of this number
-abbrev pub told : Editing → ℕ → Option Range → Answer
-told editing id None = refused (NoRange id)
-told editing id (Some range) = replied (reply.Range id (stands editing range))
-
--- that a range was taken away, or that there is none of this number
-abbrev pub dropped : ℕ → Option Range → Answer
-dropped id None = refused (NoRange id)
-dropped id (Some range) = replied (reply.Dropped id)
-
-abbrev pub answer_command : State → Command → Answer
-answer_command state (Put step) =
-    answer_put (text_of state.editing) (revision_of state.editing) state.editing.limit step
-answer_command state (MakeRange span expand empty) =
-    told state.editing state.next_id (Some (made_now state.editing span expand empty User))
-answer_command state (SetRange id span) =
-    told state.editing id (option_map (set_now state.editing span) (get state.ranges id))
-answer_command state (DropRange id) = dropped id (get state.ranges id)
-answer_command state (ShowRange id) = told state.editing id (get state.ranges id)
-
--- the answer to a request
-abbrev pub answer : State → Request → Answer
-answer state (Cmd command) = answer_command state command
-
--- the ranges with this one under the number, where there is one
-abbrev pub with_range : FinMap nat_cmp Range → ℕ → Option Range → FinMap nat_cmp Range
-with_range ranges id None = ranges
-with_range ranges id (Some range) = insert ranges id range
-
--- the ranges without the one of the number, where there is one
-abbrev pub without_range : FinMap nat_cmp Range → ℕ → Option Range → FinMap nat_cmp Range
-without_range ranges id None = ranges
-without_range ranges id (Some range) = remove ranges id
-
--- what is edited after these primitives
+-- what is edited after these steps
 abbrev pub made_further : Editing → List Primitive → Editing
-made_further editing made = record { loaded = editing.loaded; limit = editing.limit; trail = editing.trail ++ made }
+made_further editing steps = record editing { trail = editing.trail ++ steps }
 
--- the state after a command; a command on ranges leaves what is edited as it is
-abbrev pub after_command : State → Command → State
-after_command state (Put step) =
-    record state { editing = made_further state.editing (answer_command state (Put step)).made }
-after_command state (MakeRange span expand empty) = record {
-  editing = state.editing;
-  ranges = insert state.ranges state.next_id (made_now state.editing span expand empty User);
-  next_id = state.next_id + 1;
+-- an edit that is refused, or whose steps are made, outside of any transaction
+abbrev pub edit_judged : Option Refusal → Editing → List Primitive → Edit
+edit_judged (Some refusal) editing steps = record {
+  reply = reply.Refused refusal;
+  made = [];
+  after = editing;
 }
-after_command state (SetRange id span) =
-    record state { ranges = with_range state.ranges id (option_map (set_now state.editing span) (get state.ranges id)) }
-after_command state (DropRange id) = record state { ranges = without_range state.ranges id (get state.ranges id) }
-after_command state (ShowRange id) = state
+edit_judged None editing steps = record {
+  reply = reply.Edited (length steps) (revision_of (made_further editing steps)) 0;
+  made = steps;
+  after = made_further editing steps;
+}
 
--- the state after a request
-abbrev pub next : State → Request → State
-next state (Cmd command) = after_command state command
+-- what comes of an edit, which is judged whole before its first step
+abbrev pub edit : Editing → Primitive → Edit
+edit editing step =
+    edit_judged (refusal_of (text_of editing) (revision_of editing) editing.limit step) editing
+    (steps_of step)
+
+-- What comes of a request: the reply, the primitives that were made, and the state after it
+pub record Reaction : Type 0 where
+  pub reply : Reply
+  pub made : List Primitive
+  pub after : State
+
+-- a reply that changes nothing
+abbrev pub replied : State → Reply → Reaction
+replied state reply = record { reply = reply; made = []; after = state }
+
+-- a refusal changes nothing
+abbrev pub refused : State → Refusal → Reaction
+refused state refusal = replied state (reply.Refused refusal)
+
+-- an edit leaves the ranges as they are: where they stand follows from the trail
+abbrev pub edited : State → Edit → Reaction
+edited state edit = record { reply = edit.reply; made = edit.made; after = record state { editing = edit.after } }
+
+-- the range is put under the number, and the reply says where it stands
+abbrev pub placed : State → ℕ → Range → Reaction
+placed state id range = record {
+  reply = reply.Range id (stands state.editing range);
+  made = [];
+  after = record state { ranges = insert state.ranges id range };
+}
+
+-- setting a range, if there is one of this number
+abbrev pub set_range : State → ℕ → Ends → Option Range → Reaction
+set_range state id span None = refused state (NoRange id)
+set_range state id span (Some range) = placed state id (set_now state.editing span range)
+
+-- removing a range, if there is one of this number
+abbrev pub drop_range : State → ℕ → Option Range → Reaction
+drop_range state id None = refused state (NoRange id)
+drop_range state id (Some range) =
+    record { reply = reply.Dropped id; made = []; after = record state { ranges = remove state.ranges id } }
+
+-- where a range stands, if there is one of this number
+abbrev pub show_range : State → ℕ → Option Range → Reaction
+show_range state id None = refused state (NoRange id)
+show_range state id (Some range) = replied state (reply.Range id (stands state.editing range))
+
+-- what comes of a command: only an edit changes what is edited
+abbrev pub react_command : State → Command → Reaction
+react_command state (Put step) = edited state (edit state.editing step)
+react_command state (MakeRange span expand empty) =
+    placed (record state { next_id = state.next_id + 1 }) state.next_id
+    (made_now state.editing span expand empty User)
+react_command state (SetRange id span) = set_range state id span (get state.ranges id)
+react_command state (DropRange id) = drop_range state id (get state.ranges id)
+react_command state (ShowRange id) = show_range state id (get state.ranges id)
+
+-- what comes of a seat's request
+abbrev pub react : State → ℕ → Request → Reaction
+react state seat (Cmd command) = react_command state command

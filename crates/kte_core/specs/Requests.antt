@@ -1,4 +1,4 @@
--- Which requests a core may be asked.
+-- Which requests a core may be asked. This project's own rules.
 use Rattle.std.specs.Prelude.{◌≡◌, ℕ}
 use Rattle.kte_text.specs.Primitives.{HasEnd}
 use Rattle.kte_doc.specs.Standings.{SpanIsInReach}
@@ -7,7 +7,7 @@ use Rattle.kte_core.specs.declared.request.Command.TheVariants.{Put, MakeRange, 
 use Rattle.kte_core.specs.declared.request.Request.{Request}
 use Rattle.kte_core.specs.declared.request.Request.TheVariants.{Cmd}
 
--- the numbers of a command are in their ranges
+-- no number of a command is too great
 abbrev pub InRange : Command → Type 0
 InRange (Put step) = HasEnd step
 InRange (MakeRange span expand empty) = SpanIsInReach span

@@ -6,18 +6,21 @@ use kte_text::Batch;
 use std::alloc::{AllocError, Global};
 use std::marker::Model;
 
-/// One request that was answered.
+/// A request with its reply.
 #[derive(Debug, Drop)]
 pub struct Event {
-    /// Who asked: the editor has seat 0.
+    /// Whose request it is: the editor has seat 0.
     pub seat: u32,
+    /// What was asked.
     pub request: Request,
+    /// What was replied.
     pub reply: Reply,
 }
 
-/// The answer to one request.
+/// What came of a request.
 #[derive(Debug, Drop)]
 pub struct Step {
+    /// The reply to it.
     pub reply: Reply,
     /// The primitives that were made for it, in order.
     pub made: Batch,
@@ -39,7 +42,7 @@ impl Model for Journal {
 }
 
 impl Journal {
-    /// No events.
+    /// Returns an empty journal.
     pub fn new(alloc: Global) -> Journal
         ensures { result ≡ [] }
     {
@@ -48,7 +51,7 @@ impl Journal {
         }
     }
 
-    /// Adds an event at the end.
+    /// Adds an event at the end. After an error nothing has changed.
     pub fn push(&mut self, event: Event) -> Result<(), AllocError>
         ensures ok { OnOk result (self.new ≡ self.old ++ event ∷ []) }
         ensures err { OnErr result (self.new ≡ self.old) }
@@ -57,21 +60,21 @@ impl Journal {
         Ok(())
     }
 
-    /// How many there are.
+    /// Returns the number of events.
     pub fn len(&self) -> u64
         ensures { result ≡ length self.now }
     {
         self.events.len() as u64
     }
 
-    /// Whether there is none.
+    /// Returns whether there is no event.
     pub fn is_empty(&self) -> bool
         ensures { IsTrue result ↔ (self.now ≡ []) }
     {
         self.events.is_empty()
     }
 
-    /// Event `n`, counted from 0.
+    /// Returns event `n`, counted from 0.
     pub fn get(&self, n: u64) -> &Event
         requires { n < length self.now }
         ensures { slice_get self.now n ≡ Some result.now }

@@ -1,27 +1,28 @@
-//! The core of the editor: it takes one request after another, replies to each, and keeps them all as its journal.
+//! The core of the editor: a session takes one request after another, replies to each, and keeps
+//! them all as its journal.
 //!
-//! [`Core::step`] replies what the definitions give for the state before, and leads to the state that they give after it.
-//! A core is seen as what it began from and its events; its state is the replay of them.
+//! [`Core::step`] has the reply, the primitives and the next state of the reaction in `React`. A
+//! core is seen as what it began from and its events; its state is their replay.
 //!
-//! - `kernel`: the core and its calls, and the commands that change the text
+//! - `session`: the core and its calls, and the edits of the text
 //! - `ranges`: the commands on ranges
 //! - `request`, `reply`, `event`: what is asked, what is replied, and what is kept of both
-//! - `examples`: worked examples of the definitions
+//! - `laws`: what follows from the reaction alone
 //!
-//! `React` in specs/ has the answer to each request and the state after it, `Replay` a core's state as the replay of its
-//! events.
+//! In specs/, `React` has what comes of each request, `Requests` which ones are allowed, `Replay`
+//! the session as a replay of its events, and `Shown` what the document shows of the state.
 #![tactic(auto)]
 
 mod event;
-pub mod examples;
-mod kernel;
+pub mod laws;
 mod ranges;
 mod reply;
 mod request;
+mod session;
 #[cfg(test)]
 mod tests;
 
 pub use event::{Event, Journal, Step};
-pub use kernel::Core;
 pub use reply::{Refusal, Reply};
 pub use request::{Command, Request};
+pub use session::Core;

@@ -1,8 +1,9 @@
-ghost use Rattle.std.specs.Prelude.{◌≡◌, ◌^◌, ◌<◌, IfOk, OnErr};
+ghost use Rattle.std.specs.Prelude.{◌≡◌, ◌^◌, ◌<◌, None, IfOk, IsOk, OnErr};
 ghost use Rattle.std.specs.FinMap.{get};
 ghost use Rattle.kte_doc.specs.Standings.{SpanIsInReach};
 ghost use Rattle.kte_core.specs.declared.request.Command.TheVariants.{MakeRange, SetRange, DropRange, ShowRange};
-ghost use Rattle.kte_core.specs.Replay.{IsOf, Replies, told_of};
+ghost use Rattle.kte_core.specs.React.{react_command};
+ghost use Rattle.kte_core.specs.Shown.{IsOf, Replies, told_of};
 
 use crate::reply::{Refusal, Reply};
 use kte_doc::{Doc, SetFault};
@@ -10,7 +11,7 @@ use kte_place::{Empty, Expand, Span};
 use kte_ranges::{NoRange, RangeKind};
 use std::alloc::AllocError;
 
-/// Makes a range, and tells where it stands.
+/// Makes a range, and returns where it stands.
 pub(crate) fn make(
     doc: &mut Doc,
     span: Span,
@@ -20,30 +21,32 @@ pub(crate) fn make(
     requires span { SpanIsInReach span }
     requires number { doc.old.next < 2 ^ 63 }
     ensures replies { IfOk result (λ reply. (state : _) → IsOf state doc.old
-        → Replies state (MakeRange span expand empty) reply doc.new) }
+        → Replies (react_command state (MakeRange span expand empty)) reply doc.new) }
     ensures err { OnErr result (doc.new ≡ doc.old) }
 {
     let id = doc.make_range(span, expand, empty, RangeKind::User)?;
-    Ok(tell_of(doc, id))
+    Ok(show(doc, id))
 }
 
-/// Sets a range to another span, and tells where it stands.
+/// Sets a range to another span, and returns where it stands. A missing number takes no memory.
 pub(crate) fn set(doc: &mut Doc, id: u64, span: Span) -> Result<Reply, AllocError>
     requires { SpanIsInReach span }
     ensures replies { IfOk result (λ reply. (state : _) → IsOf state doc.old
-        → Replies state (SetRange id span) reply doc.new) }
+        → Replies (react_command state (SetRange id span)) reply doc.new) }
+    ensures refused { get doc.old.ranges id ≡ None → IsOk result }
     ensures err { OnErr result (doc.new ≡ doc.old) }
 {
     match doc.set_range(id, span) {
-        Ok(()) => Ok(tell_of(doc, id)),
+        Ok(()) => Ok(show(doc, id)),
         Err(SetFault::NoRange { id }) => Ok(Reply::Refused(Refusal::NoRange { id })),
         Err(SetFault::NoMemory) => Err(AllocError),
     }
 }
 
-/// Takes a range away.
+/// Removes a range.
 pub(crate) fn take_away(doc: &mut Doc, id: u64) -> Reply
-    ensures { (state : _) → IsOf state doc.old → Replies state (DropRange id) result doc.new }
+    ensures { (state : _) → IsOf state doc.old
+        → Replies (react_command state (DropRange id)) result doc.new }
 {
     match doc.drop_range(id) {
         Ok(()) => Reply::Dropped { id },
@@ -51,16 +54,11 @@ pub(crate) fn take_away(doc: &mut Doc, id: u64) -> Reply
     }
 }
 
-/// Tells where a range stands.
-pub(crate) fn tell(doc: &Doc, id: u64) -> Reply
-    ensures { (state : _) → IsOf state doc.now → Replies state (ShowRange id) result doc.now }
-{
-    tell_of(doc, id)
-}
-
-/// Where the range of this number stands in the document.
-fn tell_of(doc: &Doc, id: u64) -> Reply
-    ensures { result ≡ told_of id (get doc.now.ranges id) }
+/// Returns where a range stands.
+pub(crate) fn show(doc: &Doc, id: u64) -> Reply
+    ensures told { result ≡ told_of id (get doc.now.ranges id) }
+    ensures replies { (state : _) → IsOf state doc.now
+        → Replies (react_command state (ShowRange id)) result doc.now }
 {
     match doc.range(id) {
         Ok(span) => Reply::Range { id, span },

@@ -3,35 +3,35 @@ ghost use Rattle.std.specs.Prelude.{◌≡◌};
 use kte_place::{Empty, Expand, Span};
 use kte_text::Primitive;
 
-/// What a script asks for.
+/// A command of a script. Lines and columns of its spans are at most 2^30.
 #[derive(Debug, Drop)]
 pub enum Command {
-    /// Makes one primitive. An insertion or a removal of nothing makes none.
+    /// Makes one primitive, or none where it would insert or remove nothing.
     Put {
         step: Primitive,
     },
-    /// Makes a range, whose number is the next one.
+    /// Makes a range. It gets the next number, from 1.
     MakeRange {
         span: Span,
         expand: Expand,
         empty: Empty,
     },
-    /// Sets a range to another span; it expands, and may be empty, as before.
+    /// Sets a range to another span. Whether it expands and may be empty is unchanged.
     SetRange {
         id: u64,
         span: Span,
     },
-    /// Takes a range away. Its number is not used again.
+    /// Removes a range. Its number is not used again.
     DropRange {
         id: u64,
     },
-    /// Tells where a range stands.
+    /// Asks where a range stands.
     ShowRange {
         id: u64,
     },
 }
 
-/// What a core is asked for.
+/// A request to a core.
 #[derive(Debug, Drop)]
 pub enum Request {
     /// A command of the script.
@@ -39,7 +39,7 @@ pub enum Request {
 }
 
 impl Request {
-    /// The command that is asked for.
+    /// Returns the command of the request.
     pub(crate) fn command(&self) -> &Command
         ensures { self.now ≡ Request.Cmd result.now }
     {

@@ -1,5 +1,5 @@
 use crate::{Command, Core, Event, Journal, Refusal, Reply, Request, Step};
-use kte_text::{Line, Misfit, Primitive, load};
+use kte_text::{Line, Lines, Misfit, Primitive, load};
 use std::alloc::Global;
 use std::test::Fail;
 
@@ -21,11 +21,11 @@ fn insert(alloc: Global, core: &mut Core, column: u64, text: &[u8]) -> Result<St
 
 /// The present text of a core, with `|` in front of each line.
 fn shown(alloc: Global, core: &Core) -> Result<String, Fail> {
-    let text = core.copy_text(alloc)?;
+    let doc = core.doc();
     let mut shown = String::new(alloc);
-    for n in 0..text.len() {
+    for n in 0..doc.lines() {
         shown.push('|')?;
-        shown.push_str(&String::from_utf16_lossy(alloc, text.get(n).units())?)?;
+        shown.push_str(&String::from_utf16_lossy(alloc, doc.line(n))?)?;
     }
     Ok(shown)
 }
@@ -43,6 +43,8 @@ fn an_insertion_is_made_and_is_an_event(rt: HostRuntime) -> Result<(), Fail> {
     assert_eq!(rt; step.reply, edited);
     assert_eq!(rt; step.made.len(), 1);
     assert_eq!(rt; shown(alloc, &core)?.as_str(), "|hello!|");
+    assert_eq!(rt; core.copy_text(alloc)?.len(), 2);
+    assert_eq!(rt; core.doc().revision(), 1);
 
     assert_eq!(rt; core.journal().len(), 1);
     let event = core.journal().get(0);

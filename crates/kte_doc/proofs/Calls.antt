@@ -13,7 +13,7 @@ use Rattle.kte_buffer.specs.Cursors.{hanging}
 use Rattle.kte_ranges.specs.declared.info.RangeInfo.{RangeInfo}
 use Rattle.kte_ranges.specs.Table.{Ranges}
 use Rattle.kte_ranges.specs.Cursors.{Hung, span_of, is_among, holds_cursor}
-use Rattle.kte_doc.specs.declared.document.TheConstants.{FARTHEST}
+use Rattle.kte_place.specs.declared.place.TheConstants.{MAX_REACH}
 use Rattle.kte_doc.specs.Standings.{Standing, SpanIsInReach}
 use Rattle.kte_doc.specs.Hanging.{HungAt, HangsNew}
 use Rattle.kte_doc.specs.Inside.{standing_of, standings_of, IsWithin, HangAt, CursorsFit}
@@ -71,7 +71,7 @@ still_hangs hung hung1 expand has span hangs n some =
       not_new false new = refl
 
 -- a span in reach whose lines are in the text, and that settles, is within it
-made_within : (lines farthest : ℕ) (span t : Ends) (empty : Empty) → SpanIsInReach span → FARTHEST ≤ farthest → made lines span empty ≡ Some t
+made_within : (lines farthest : ℕ) (span t : Ends) (empty : Empty) → SpanIsInReach span → MAX_REACH ≤ farthest → made lines span empty ≡ Some t
     → IsTrue (is_at_or_before t.start t.end) × IsWithin lines farthest t.start × IsWithin lines farthest t.end
 made_within lines farthest span t empty reach near is =
     let lines_in = in_text (nat_lt span.start.line lines) (nat_lt span.end.line lines) is in
@@ -100,7 +100,7 @@ module _ (hung hung1 hung2 : Hung) (ranges ranges' : Ranges) (lines farthest id 
     not_old true old = let some = hangs_under hung ranges lines farthest id had fit was n old in absurd (grind arith)
     not_old false old = refl
 
-  module _ (info : RangeInfo) (span : Ends) (now : ranges' ≡ insert ranges id info) (reach : SpanIsInReach span) (near : FARTHEST ≤ farthest) where
+  module _ (info : RangeInfo) (span : Ends) (now : ranges' ≡ insert ranges id info) (reach : SpanIsInReach span) (near : MAX_REACH ≤ farthest) where
     puts : Puts ranges ranges' id had (Some info)
     puts = record {
       was = was;
@@ -213,7 +213,7 @@ pub record IsPut (hung hung' : Hung) (ranges ranges' : Ranges) (lines farthest i
 -- a range is made, in a table with room for it
 pub IsPut-make : (hung hung' : Hung) (ranges mid ranges' : Ranges) (lines farthest next : ℕ) (info : RangeInfo) (span : Ends)
     → CursorsFit hung ranges lines farthest → mid ≡ ranges → get mid next ≡ None → ranges' ≡ insert mid next info
-    → SpanIsInReach span → FARTHEST ≤ farthest → HangsNew hung hung' info.expand info.cursors (made lines span info.empty)
+    → SpanIsInReach span → MAX_REACH ≤ farthest → HangsNew hung hung' info.expand info.cursors (made lines span info.empty)
     → IsPut hung hung' ranges ranges' lines farthest next (standing_at lines span info)
 IsPut-make hung hung' ranges mid ranges' lines farthest next info span fit same unused now reach near hangs =
     let was : get ranges next ≡ None = ap (λ (m : Ranges). get m next) (sym same) ∙ unused in
@@ -227,7 +227,7 @@ IsPut-make hung hung' ranges mid ranges' lines farthest next info span fit same 
 pub IsPut-set : (hung hung1 hung2 : Hung) (ranges ranges' : Ranges) (lines farthest id : ℕ) (old info : RangeInfo) (span : Ends)
     → CursorsFit hung ranges lines farthest → get ranges id ≡ Some old → ranges' ≡ insert ranges id info
     → ((n : ℕ) → get hung2 n ≡ (if is_among old.cursors n then None else get hung1 n))
-    → SpanIsInReach span → FARTHEST ≤ farthest → HangsNew hung hung1 info.expand info.cursors (made lines span info.empty)
+    → SpanIsInReach span → MAX_REACH ≤ farthest → HangsNew hung hung1 info.expand info.cursors (made lines span info.empty)
     → IsPut hung hung2 ranges ranges' lines farthest id (standing_at lines span info)
 IsPut-set hung hung1 hung2 ranges ranges' lines farthest id old info span fit was now taken reach near hangs = record {
   fits = put_fits hung hung1 hung2 ranges ranges' lines farthest id (Some old) fit was taken info span now reach near hangs;

@@ -4,8 +4,8 @@ use Rattle.std.proofs.lemmas.Bool.Decides.{nat_tests}
 use Rattle.std.proofs.lemmas.List.Sums.{sum_by-take-drop, sum_by-drop_more}
 use Rattle.kte_text.specs.Texts.{line_at, size_of, units_of}
 use Rattle.kte_text.specs.Primitives.{FitsText, misfit, after}
-use Rattle.kte_text.specs.Laws.{FitsText-from_misfit, size_of-after_unwrap, small-from_misfit}
-use Rattle.kte_text.specs.declared.TheConstants.{GREATEST_SIZE}
+use Rattle.kte_text.proofs.PrimitiveLemmas.{FitsText-from_misfit, size_of-after_unwrap, small-from_misfit}
+use Rattle.kte_text.specs.declared.TheConstants.{MAX_SIZE}
 use Rattle.kte_text.specs.declared.primitive.Primitive.{Primitive}
 use Rattle.kte_text.specs.declared.primitive.Primitive.TheVariants.{Wrap, Unwrap, Insert, Remove}
 use Rattle.kte_place.specs.declared.place.Place.{Place}
@@ -15,7 +15,7 @@ use Rattle.kte_place.specs.declared.entry.EntryKind.{EntryKind}
 use Rattle.kte_place.specs.declared.entry.EntryKind.TheVariants as kind
 use Rattle.kte_place.specs.Entry.{carry, carry_by}
 use Rattle.kte_buffer.specs.Entries.{entry}
-use Rattle.kte_buffer.specs.Laws.{carried_within}
+use Rattle.kte_buffer.proofs.CallerLemmas.{carried_within}
 use Rattle.kte_doc.specs.Inside.{IsWithin, farthest_at}
 
 -- no line has more units than the text
@@ -35,18 +35,18 @@ push : (e : Entry) (place : Place) (on : OnInsert) (most : ℕ) → (e.kind ≡ 
 push e place on most joined inserted = grind (arith, nat_tests, push_by e.kind e place on most joined inserted)
 
 -- a primitive that fits pushes a place by at most the greatest size
-pushed : (p : Primitive) (text : List (List ℕ)) (place : Place) (on : OnInsert) → FitsText p text → size_of (after p text) ≤ GREATEST_SIZE
-    → (carry (entry p text) place on).column ≤ place.column + GREATEST_SIZE
+pushed : (p : Primitive) (text : List (List ℕ)) (place : Place) (on : OnInsert) → FitsText p text → size_of (after p text) ≤ MAX_SIZE
+    → (carry (entry p text) place on).column ≤ place.column + MAX_SIZE
 pushed (Wrap line column) text place on fits small =
-    push (entry (Wrap line column) text) place on GREATEST_SIZE (λ e. absurd (cc)) (λ e. absurd (cc))
+    push (entry (Wrap line column) text) place on MAX_SIZE (λ e. absurd (cc)) (λ e. absurd (cc))
 pushed (Unwrap line) text place on (joined, inside) small =
-    push (entry (Unwrap line) text) place on GREATEST_SIZE
+    push (entry (Unwrap line) text) place on MAX_SIZE
     (λ e. omega (arith, size_of-after_unwrap line text joined inside, length-units text (line - 1) (omega arith)))
     (λ e. absurd (cc))
 pushed (Insert line column units) text place on (inside, at, small) _ =
-    push (entry (Insert line column units) text) place on GREATEST_SIZE (λ e. absurd (cc)) (λ e. omega arith)
+    push (entry (Insert line column units) text) place on MAX_SIZE (λ e. absurd (cc)) (λ e. omega arith)
 pushed (Remove line column units) text place on fits small =
-    push (entry (Remove line column units) text) place on GREATEST_SIZE (λ e. absurd (cc)) (λ e. absurd (cc))
+    push (entry (Remove line column units) text) place on MAX_SIZE (λ e. absurd (cc)) (λ e. absurd (cc))
 
 -- a place in the text stays in it, and no farther than the next revision allows
 pub IsWithin-carried : (p : Primitive) (text : List (List ℕ)) (revision : ℕ) (place : Place) (on : OnInsert) → misfit p text ≡ None

@@ -12,7 +12,8 @@ use Rattle.kte_place.specs.Cursors.{Hanging}
 use Rattle.kte_buffer.specs.Cursors.{hanging}
 use Rattle.kte_ranges.specs.declared.info.RangeInfo.{RangeInfo}
 use Rattle.kte_ranges.specs.Cursors.{Hung, span_of, ends_at, is_among, holds_cursor}
-use Rattle.kte_doc.specs.Standings.{IsInReach, SpanIsInReach}
+use Rattle.kte_place.specs.Place.{IsInReach}
+use Rattle.kte_doc.specs.Standings.{SpanIsInReach}
 use Rattle.kte_doc.specs.Inside.{IsWithin, HangAt}
 
 -- the ends at two cursors

@@ -3,11 +3,11 @@ use Rattle.std.proofs.Common.{◌≡◌, ℕ, ◌+◌, ◌<◌, ◌≤◌, ◌^�
 use Rattle.std.specs.Option.{option_map}
 use Rattle.std.specs.FinMap.{get}
 use Rattle.kte_text.specs.Primitives.{misfit, after}
-use Rattle.kte_text.specs.Laws.{FitsText-from_misfit}
+use Rattle.kte_text.proofs.PrimitiveLemmas.{FitsText-from_misfit}
 use Rattle.kte_text.specs.declared.primitive.Primitive.{Primitive}
 use Rattle.kte_place.specs.declared.place.Place.{Place}
 use Rattle.kte_place.specs.declared.place.OnInsert.{OnInsert}
-use Rattle.kte_place.specs.declared.place.TheConstants.{GREATEST_COLUMN}
+use Rattle.kte_place.specs.declared.place.TheConstants.{MAX_COLUMN}
 use Rattle.kte_place.specs.declared.entry.Entry.{Entry}
 use Rattle.kte_place.specs.declared.entry.EntryKind.TheVariants.{Unwrap}
 use Rattle.kte_place.specs.Ends.{Ends}
@@ -19,7 +19,7 @@ use Rattle.kte_buffer.specs.Cursors.{hanging, carried}
 use Rattle.kte_buffer.specs.Entries.{entry}
 use Rattle.kte_buffer.specs.Buffer.{is_home, ColumnsFit}
 use Rattle.kte_buffer.specs.declared.buffer.Ready.TheVariants.{ToRehome}
-use Rattle.kte_buffer.specs.Laws.{IsWithin-entry}
+use Rattle.kte_buffer.proofs.CallerLemmas.{IsWithin-entry}
 use Rattle.kte_ranges.specs.declared.info.RangeInfo.{RangeInfo}
 use Rattle.kte_ranges.specs.Table.{Ranges, AllInfos}
 use Rattle.kte_ranges.specs.Cursors.{Hung, span_of, ends_at, is_among, holds_cursor, IsFree, CursorsHang, CursorsApart, StartsAreReady}
@@ -65,7 +65,7 @@ kept_by (Some span) cursors c is = (span, (refl, is))
 pub record Carries (e : Entry) (lines lines' farthest farthest' : ℕ) (old now : Hung) (ranges : Ranges) : Type 0 where
   pub joined : e.kind ≡ Unwrap → 1 ≤ e.line
   pub moves : (place : Place) (on : OnInsert) → IsWithin lines farthest place → IsWithin lines' farthest' (carry e place on)
-  pub bound : farthest' ≤ GREATEST_COLUMN
+  pub bound : farthest' ≤ MAX_COLUMN
   pub fit : CursorsFit old ranges lines farthest
   pub all : AllCarried e old now
 
@@ -103,13 +103,13 @@ module _ (e : Entry) (lines lines' farthest farthest' : ℕ) (old now : Hung) (r
   -- a cursor can be moved to each start that an end came before
   start_ready : (id : ℕ) (info : RangeInfo) (s : Ends) (o : Option (ℕ × ℕ)) → get ranges id ≡ Some info → info.cursors ≡ o
       → span_of now info ≡ Some s → IsTrue (is_before s.end s.start)
-      → IsTrue (is_home (ToRehome e) s.start.line) × (s.start.column ≤ GREATEST_COLUMN)
+      → IsTrue (is_home (ToRehome e) s.start.line) × (s.start.column ≤ MAX_COLUMN)
   start_ready id info s None there is stands before = let none = span_of-invalid now info is in absurd (cc)
   start_ready id info s (Some c) there is stands before =
       let at = carries.fit.hang id info c there is in
       let same : ends (start_after e info at.0) (end_after e info at.0) ≡ s = by_some (sym (span_now info c at.0 is at.1) ∙ stands) in
       let Is : Ends → Type 0 = λ t. IsTrue (is_before t.end t.start) in
-      let Ready : Ends → Type 0 = λ t. IsTrue (is_home (ToRehome e) t.start.line) × (t.start.column ≤ GREATEST_COLUMN) in
+      let Ready : Ends → Type 0 = λ t. IsTrue (is_home (ToRehome e) t.start.line) × (t.start.column ≤ MAX_COLUMN) in
       let over = subst Is (sym same) before in
       let within = carries.moves at.0.start (start_on info.expand) at.1.start_within in
       subst Ready same (
@@ -245,17 +245,17 @@ Carries-primitive p text read revision limit e old mid now ranges fits below sma
     }
 
 -- no cursor stands farther than can be carried
-pub columns_fit : (hung mid : Hung) (ranges : Ranges) (lines farthest : ℕ) → farthest ≤ GREATEST_COLUMN → mid ≡ hung → CursorsFit hung ranges lines farthest
+pub columns_fit : (hung mid : Hung) (ranges : Ranges) (lines farthest : ℕ) → farthest ≤ MAX_COLUMN → mid ≡ hung → CursorsFit hung ranges lines farthest
     → ColumnsFit mid
 columns_fit hung mid ranges lines farthest bound same fit id =
-    subst (λ (m : Hung). IfSome (get m id) (λ cursor. cursor.place.column ≤ GREATEST_COLUMN)) (sym same) (by_cursor (get hung id) refl) where
-      by_cursor : (o : Option Hanging) → get hung id ≡ o → IfSome o (λ cursor. cursor.place.column ≤ GREATEST_COLUMN)
+    subst (λ (m : Hung). IfSome (get m id) (λ cursor. cursor.place.column ≤ MAX_COLUMN)) (sym same) (by_cursor (get hung id) refl) where
+      by_cursor : (o : Option Hanging) → get hung id ≡ o → IfSome o (λ cursor. cursor.place.column ≤ MAX_COLUMN)
       by_cursor None is = tt
       by_cursor (Some h) is =
           let it = fit.held id (subst (λ o. IsSome o) (sym is) refl) in
           let c = cursors_of_held it.1.0.cursors id it.1.1.1 in
           let at = fit.hang it.0 it.1.0 c.0 it.1.1.0 c.1 in
-          let P : Hanging → Type 0 = λ h. h.place.column ≤ GREATEST_COLUMN in
+          let P : Hanging → Type 0 = λ h. h.place.column ≤ MAX_COLUMN in
           elim (first_or_second c.0 id (ap (λ o. is_among o id) (sym c.1) ∙ it.1.1.1)) [
             | inl first ↦ subst P (by_some (sym at.1.start ∙ ap (get hung) (sym first) ∙ is)) (omega (arith, at.1.start_within.column))
             | inr second ↦ subst P (by_some (sym at.1.end ∙ ap (get hung) (sym second) ∙ is)) (omega (arith, at.1.end_within.column))

@@ -9,7 +9,7 @@ use Rattle.std.proofs.lemmas.Bool.Decides.{nat_tests}
 use Rattle.std.specs.Option.{option_map}
 use Rattle.std.specs.FinMap.{get, insert, remove, gets}
 use Rattle.kte_text.specs.Primitives.{is_empty, misfit, after, after_all}
-use Rattle.kte_text.specs.Laws.{after_all-append, FitInTurn-append}
+use Rattle.kte_text.proofs.PrimitiveLemmas.{after_all-append, FitInTurn-append}
 use Rattle.kte_text.specs.declared.primitive.Primitive.{Primitive}
 use Rattle.kte_place.specs.declared.span.Expand.{Expand}
 use Rattle.kte_place.specs.declared.span.Empty.{Empty}

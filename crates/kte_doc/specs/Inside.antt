@@ -7,13 +7,13 @@ use Rattle.kte_place.specs.Ends.{Ends}
 use Rattle.kte_place.specs.Place.{is_at_or_before}
 use Rattle.kte_place.specs.Span.{start_on, end_on}
 use Rattle.kte_buffer.specs.Cursors.{hanging}
-use Rattle.kte_text.specs.declared.TheConstants.{GREATEST_SIZE}
+use Rattle.kte_text.specs.declared.TheConstants.{MAX_SIZE}
 use Rattle.kte_ranges.specs.declared.info.RangeInfo.{RangeInfo}
 use Rattle.kte_ranges.specs.Table.{Ranges}
 use Rattle.kte_ranges.specs.Cursors.{Hung, span_of, holds_cursor, CursorsApart}
 use Rattle.kte_doc.specs.Standings.{Standing, Standings}
 use Rattle.kte_doc.specs.Documents.{Document}
-use Rattle.kte_doc.specs.declared.document.TheConstants.{FARTHEST}
+use Rattle.kte_place.specs.declared.place.TheConstants.{MAX_REACH}
 use Rattle.kte_doc.specs.declared.document.Doc.TheInside.{Inside}
 
 -- a range as its cursors hang
@@ -42,7 +42,7 @@ document_of doc = record {
 
 -- the greatest column at a revision: each primitive moves a place by at most the greatest size
 abbrev pub farthest_at : ℕ → ℕ
-farthest_at revision = FARTHEST + revision * GREATEST_SIZE
+farthest_at revision = MAX_REACH + revision * MAX_SIZE
 
 -- a place in a text of so many lines, at no greater column
 pub record IsWithin (lines farthest : ℕ) (place : Place) : Type 0 where

@@ -1,5 +1,5 @@
 -- What contracts see of the ranges of a document (KTextEditor's MovingRange; their numbers are this project's own).
-use Rattle.std.specs.Prelude.{◌≡◌, ℕ, ◌≤◌, List, length, Option, None, Some, is_some, refl}
+use Rattle.std.specs.Prelude.{◌≡◌, ℕ, List, length, Option, None, Some, is_some, refl}
 use Rattle.std.specs.Option.{option_map}
 use Rattle.std.specs.List.{filter_map}
 use Rattle.std.specs.Ordering.{nat_cmp}
@@ -10,13 +10,13 @@ use Rattle.kte_place.specs.declared.span.Expand.{Expand}
 use Rattle.kte_place.specs.declared.span.Empty.{Empty}
 use Rattle.kte_place.specs.declared.entry.Entry.{Entry}
 use Rattle.kte_place.specs.Ends.{Ends}
+use Rattle.kte_place.specs.Place.{IsInReach}
 use Rattle.kte_place.specs.Span.{made, carry_span}
 use Rattle.kte_place.specs.Codes.{ends_code}
 use Rattle.kte_ranges.specs.declared.info.RangeKind.{RangeKind}
 use Rattle.kte_ranges.specs.declared.info.Origin.{Origin}
 use Rattle.kte_ranges.specs.declared.info.RangeInfo.{RangeInfo}
 use Rattle.kte_ranges.specs.Table.{expand_code, empty_code, kind_code, origin_code}
-use Rattle.kte_doc.specs.declared.document.TheConstants.{FARTHEST}
 
 -- a range: what it does at a change, whose it is, where it was made or last set, and where it stands now. `None` is invalid
 pub record Standing : Type 0 where
@@ -70,10 +70,6 @@ Tells None None = Unit {0}
 Tells None (Some info) = ⊥
 Tells (Some standing) None = ⊥
 Tells (Some standing) (Some info) = TellsOf standing info
-
--- a place at which a range may be made
-abbrev pub IsInReach : Place → Type 0
-IsInReach place = (place.line ≤ FARTHEST) × (place.column ≤ FARTHEST)
 
 -- a span of which a range may be made
 pub record SpanIsInReach (span : Ends) : Type 0 where

@@ -17,9 +17,6 @@ use kte_text::{Lines, Primitive, Text};
 use std::alloc::{AllocError, Global};
 use std::marker::Model;
 
-/// The greatest line, from 0, and the greatest column, in UTF-16 units, of a span of which a range is made: 2^30.
-pub const FARTHEST: u64 = 1 << 30;
-
 /// A document.
 ///
 /// Contracts see it as its text, its ranges by their numbers, the number that the next range gets, how many primitives
@@ -272,6 +269,10 @@ impl Lines for Doc {
 
     fn line(&self, n: u32) -> &[u16] {
         self.buffer.line(n)
+    }
+
+    fn line_hinted(&self, n: u32, hint: &mut u64) -> &[u16] {
+        self.buffer.line_hinted(n, hint)
     }
 
     fn size(&self) -> u64 {

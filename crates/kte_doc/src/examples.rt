@@ -2,7 +2,8 @@
 ghost use Rattle.std.specs.Prelude.{◌≡◌, [], ◌∷◌, true, false, Some, None};
 ghost use Rattle.kte_text.specs.declared.primitive.Primitive.TheVariants.{Wrap, Unwrap};
 ghost use Rattle.kte_place.specs.declared.span.Empty.TheVariants.{Allow, Void};
-ghost use Rattle.kte_place.specs.Examples.{span, expand, insertion};
+ghost use Rattle.kte_place.specs.Entry.{insertion};
+ghost use Rattle.kte_place.specs.Examples.{span, expand};
 ghost use Rattle.kte_buffer.specs.Examples.{abc_de};
 ghost use Rattle.kte_doc.specs.Trail.{entries_of, text_at, stand};
 ghost use Rattle.kte_doc.specs.Examples.{xabx, both_sides, gone_and_back, origin, round_ab};

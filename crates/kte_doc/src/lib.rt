@@ -13,7 +13,7 @@
 //! `Documents` in specs/ has what a document is seen as, and `Trail` where its ranges stand.
 #![tactic(auto)]
 
-pub use document::{Doc, FARTHEST};
+pub use document::Doc;
 pub use fault::{DocFault, SetFault};
 
 mod cursors;

@@ -137,3 +137,16 @@ fn no_primitive_is_made_past_the_limit(rt: HostRuntime) -> Result<(), Fail> {
     assert_eq!(rt; doc.copy_text(rt.alloc())?.lines(), 3);
     Ok(())
 }
+
+#[test]
+fn a_range_stays_on_its_word(rt: HostRuntime) -> Result<(), Fail> {
+    let alloc = rt.alloc();
+    let mut doc = Doc::new(alloc, load(alloc, b"hello\nworld")?.text, 1_000)?;
+    let world = Span::new(Place { line: 1, column: 0 }, Place { line: 1, column: 5 });
+    assert!(rt; doc.next_id() < 1 << 63);
+    let id = doc.make_range(world, NEITHER, Empty::Allow, RangeKind::User)?;
+    doc.primitive(&Primitive::Wrap { line: 0, column: 2 })?;
+    let moved = Span::new(Place { line: 2, column: 0 }, Place { line: 2, column: 5 });
+    assert_eq!(rt; doc.range(id), Ok(Some(moved)));
+    Ok(())
+}

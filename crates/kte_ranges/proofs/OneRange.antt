@@ -8,7 +8,7 @@ use Rattle.kte_place.specs.declared.span.Empty.TheVariants.{Allow, Void}
 use Rattle.kte_place.specs.Place.{is_before}
 use Rattle.kte_place.specs.Span.{ends, settle}
 use Rattle.kte_place.specs.Cursors.{Hanging, place_of, cursor_at, with_place}
-use Rattle.kte_place.proofs.Hanging.{moves_one, takes_one, moved_other, taken_other}
+use Rattle.kte_place.proofs.CallerLemmas.{moves_one, takes_one, moved_other, taken_other}
 use Rattle.kte_ranges.specs.declared.info.RangeInfo.{RangeInfo}
 use Rattle.kte_ranges.specs.Cursors.{Hung, span_of, holds_cursor, is_among, Hangs, HoldsTwo}
 use Rattle.kte_ranges.specs.Settling.{settled_span, CursorsFollow}

@@ -7,7 +7,7 @@ use Rattle.kte_place.specs.declared.place.Place.{Place}
 use Rattle.kte_place.specs.declared.place.OnInsert.TheVariants.{Stay}
 use Rattle.kte_place.specs.declared.span.Empty.{Empty}
 use Rattle.kte_place.specs.Cursors.{Hanging, place_of, cursor_at, with_place}
-use Rattle.kte_place.proofs.Hanging.{moves_one, takes_one}
+use Rattle.kte_place.proofs.CallerLemmas.{moves_one, takes_one}
 use Rattle.kte_ranges.specs.declared.info.RangeInfo.{RangeInfo}
 use Rattle.kte_ranges.specs.Cursors.{Hangs, HoldsTwo, StartIsReady, CursorsApart}
 use Rattle.kte_ranges.specs.Table.{AllInfos}

@@ -3,7 +3,7 @@ use Rattle.std.specs.Prelude.{◌≡◌, ◌≢◌, ℕ, ◌≤◌, Bool, false,
 use Rattle.std.specs.Ordering.{nat_cmp}
 use Rattle.std.specs.FinMap.{FinMap, get}
 use Rattle.kte_place.specs.declared.place.Place.{Place}
-use Rattle.kte_place.specs.declared.place.TheConstants.{GREATEST_COLUMN}
+use Rattle.kte_place.specs.declared.place.TheConstants.{MAX_COLUMN}
 use Rattle.kte_place.specs.Ends.{Ends}
 use Rattle.kte_place.specs.Place.{is_before}
 use Rattle.kte_place.specs.Span.{ends}
@@ -65,7 +65,7 @@ span_of hung info = ends_at hung info.cursors
 abbrev pub StartIsReady : Hung → (ℕ → Bool) → RangeInfo → Type 0
 StartIsReady hung ready info =
     (s : Ends) → span_of hung info ≡ Some s → IsTrue (is_before s.end s.start)
-    → IsTrue (ready s.start.line) × (s.start.column ≤ GREATEST_COLUMN)
+    → IsTrue (ready s.start.line) × (s.start.column ≤ MAX_COLUMN)
 
 -- a cursor can be moved to the start of each range whose end stands before it
 abbrev pub StartsAreReady : Hung → (ℕ → Bool) → Ranges → Type 0

@@ -51,6 +51,7 @@ impl RangeInfo {
         ensures others { (n : ℕ) → holds_cursor self.old n ≡ false →
             map.get (C.hung cursors.new) n ≡ map.get (C.hung cursors.old) n }
         ensures lines { C.ready cursors.new ≡ C.ready cursors.old }
+        ensures near { C.near cursors.new ≡ C.near cursors.old }
         ensures rest { C.rest cursors.new ≡ C.rest cursors.old }
     {
         let Some((start, end)) = self.cursors else {

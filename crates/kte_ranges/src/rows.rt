@@ -30,6 +30,7 @@ pub(crate) fn settle_rows<C: Cursors>(rows: &mut [(u64, RangeInfo)], cursors: &m
     ensures others { (n : ℕ) → All (λ row. holds_cursor row.1 n ≡ false) rows.old →
         map.get (C.hung cursors.new) n ≡ map.get (C.hung cursors.old) n }
     ensures lines { C.ready cursors.new ≡ C.ready cursors.old }
+    ensures near { C.near cursors.new ≡ C.near cursors.old }
     ensures rest { C.rest cursors.new ≡ C.rest cursors.old }
 {
     for row in rows {

@@ -152,6 +152,7 @@ impl RangeTable {
         ensures hang { CursorsHang (C.hung cursors.new) self.new.ranges }
         ensures apart { CursorsApart self.new.ranges }
         ensures lines { C.ready cursors.new ≡ C.ready cursors.old }
+        ensures near { C.near cursors.new ≡ C.near cursors.old }
         ensures rest { C.rest cursors.new ≡ C.rest cursors.old }
         ensures next { self.new.next ≡ self.old.next }
         ensures room { self.new.room ≡ self.old.room }

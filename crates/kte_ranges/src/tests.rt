@@ -1,4 +1,4 @@
-ghost use Rattle.std.specs.Prelude.{◌≡◌, ◌<◌, ℕ, nat_lt, Some};
+ghost use Rattle.std.specs.Prelude.{◌≡◌, ◌<◌, ℕ, [], ◌∷◌, nat_lt, Some};
 ghost use Rattle.kte_place.specs.Place.{at};
 ghost use Rattle.kte_ranges.specs.Cursors.{Hangs, StartIsReady};
 ghost use Rattle.kte_ranges.specs.Examples.{range, pegs};
@@ -60,12 +60,22 @@ impl Cursors for Pegs {
 
     ghost ready = { λ p line. nat_lt line 1 };
 
+    ghost near = { λ p. 0 ∷ 1 ∷ [] };
+
     ghost Rest = { ℕ };
 
     ghost rest = { λ p. 0 };
 
     fn place(&self, id: u64) -> Place {
         if id == 0 { self.start } else { self.end }
+    }
+
+    fn near_len(&self) -> u64 {
+        2
+    }
+
+    fn near_at(&self, n: u64) -> u64 {
+        n
     }
 
     fn rehome(&mut self, id: u64, place: Place) {

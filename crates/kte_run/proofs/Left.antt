@@ -3,14 +3,14 @@ use Rattle.std.proofs.Common.{◌≡◌, ℕ, ◌+◌, ◌<◌, List, length, Op
 use Rattle.std.proofs.lemmas.Bool.{lt-ltb}
 use Rattle.kte_causes.specs.Contents.{TakesSome}
 use Rattle.kte_run.specs.Script.{script_of}
-use Rattle.kte_run.specs.declared.TheConstants.{LONGEST_SCRIPT}
+use Rattle.kte_run.specs.declared.TheConstants.{MAX_SCRIPT_LENGTH}
 
 -- a script that is too long does not spell commands
-script_of-long : (bytes : List ℕ) → LONGEST_SCRIPT < length bytes → script_of bytes ≡ None
-script_of-long bytes long = rw (lt-ltb LONGEST_SCRIPT (length bytes) long) refl
+script_of-long : (bytes : List ℕ) → MAX_SCRIPT_LENGTH < length bytes → script_of bytes ≡ None
+script_of-long bytes long = rw (lt-ltb MAX_SCRIPT_LENGTH (length bytes) long) refl
 
 -- where a read ended since more than the longest script was taken, what was left does not spell commands
-pub script_of-too_long : (before after : Option (List ℕ)) (P : Type 0) → TakesSome before after → IfSome before (λ was. IfSome after (λ is. P ↔ (length is + LONGEST_SCRIPT < length was))) → P → IfSome before (λ was. script_of was ≡ None)
+pub script_of-too_long : (before after : Option (List ℕ)) (P : Type 0) → TakesSome before after → IfSome before (λ was. IfSome after (λ is. P ↔ (length is + MAX_SCRIPT_LENGTH < length was))) → P → IfSome before (λ was. script_of was ≡ None)
 script_of-too_long None after P took h p = tt
 script_of-too_long (Some was) (Some is) P took h p = script_of-long was (let more = h.0 p in omega arith)
 script_of-too_long (Some was) None P took h p = let never : Some was ≡ None = took.1 in cc

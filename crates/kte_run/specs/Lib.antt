@@ -3,4 +3,3 @@ pub mod Script
 pub mod Output
 pub mod Statuses
 pub mod Run
-pub mod Examples

@@ -1,17 +1,18 @@
 -- What is printed: a line for each reply, and the text. This project's own form.
-use Rattle.std.specs.Prelude.{ℕ, List, [], ◌∷◌, ◌++◌, codes, encode_utf8_all, Option, None, Some}
+use Rattle.std.specs.Prelude.{ℕ, List, [], ◌∷◌, ◌++◌, codes, Option, None, Some}
 use Rattle.std.specs.List.{flat_map}
 use Rattle.std.specs.Fmt.{decimal}
-use Rattle.std.specs.Char.Utf16.{utf16_lossy_chars}
+use Rattle.kte_text.specs.Units.{utf8_of}
 use Rattle.kte_text.specs.declared.primitive.Misfit.{Misfit as Cause}
 use Rattle.kte_text.specs.declared.primitive.Misfit.TheVariants.{NoLine, NoColumn, SplitsPair, FirstLine, TooLarge}
 use Rattle.kte_place.specs.Ends.{Ends}
+use Rattle.kte_core.specs.declared.event.Event.{Event}
 use Rattle.kte_core.specs.declared.reply.Reply.{Reply}
 use Rattle.kte_core.specs.declared.reply.Reply.TheVariants.{Edited, Range, Dropped, Refused}
 use Rattle.kte_core.specs.declared.reply.Refusal.{Refusal}
 use Rattle.kte_core.specs.declared.reply.Refusal.TheVariants.{Misfit, RevisionsFull, NoRange}
 
--- a number behind a space
+-- a number after a space
 abbrev pub spaced : ℕ → List ℕ
 spaced n = 32 ∷ decimal n
 
@@ -30,23 +31,25 @@ refusal_text (NoRange id) = codes "norange" ++ spaced id
 -- a span, from its start to its end, or `invalid`
 abbrev pub span_text : Option Ends → List ℕ
 span_text None = codes " invalid"
-span_text (Some span) = spaced span.start.line ++ spaced span.start.column ++ spaced span.end.line ++ spaced span.end.column
+span_text (Some span) = spaced span.start.line ++ spaced span.start.column
+    ++ spaced span.end.line ++ spaced span.end.column
 
 -- the spelling of a reply
 abbrev pub reply_text : Reply → List ℕ
-reply_text (Edited steps revision depth) = codes "edited" ++ spaced steps ++ spaced revision ++ spaced depth
+reply_text (Edited steps revision depth) = codes "edited" ++ spaced steps ++ spaced revision
+    ++ spaced depth
 reply_text (Range id span) = codes "range" ++ spaced id ++ span_text span
 reply_text (Dropped id) = codes "dropped" ++ spaced id
 reply_text (Refused refusal) = codes "refused " ++ refusal_text refusal
 
 -- a line of the text: `|`, the line in UTF-8, and LF
 abbrev pub line_text : List ℕ → List ℕ
-line_text units = 124 ∷ encode_utf8_all (utf16_lossy_chars units) ++ 10 ∷ []
+line_text units = 124 ∷ utf8_of units ++ 10 ∷ []
 
--- a reply on a line of its own
-abbrev pub reply_line : Reply → List ℕ
-reply_line reply = reply_text reply ++ 10 ∷ []
+-- an event on a line of its own: its reply
+abbrev pub event_line : Event → List ℕ
+event_line event = reply_text event.reply ++ 10 ∷ []
 
--- the whole output: a line for each reply, the line `text`, and the lines of the text
-abbrev pub output_of : List Reply → List (List ℕ) → List ℕ
-output_of replies text = flat_map reply_line replies ++ codes "text" ++ 10 ∷ flat_map line_text text
+-- the whole output: a line for each event, the line `text`, and the lines of the text
+abbrev pub output_of : List Event → List (List ℕ) → List ℕ
+output_of events text = flat_map event_line events ++ codes "text" ++ 10 ∷ flat_map line_text text

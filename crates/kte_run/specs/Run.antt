@@ -1,36 +1,82 @@
--- What a run prints, and what its answers mean.
-use Rattle.std.specs.Prelude.{◌≡◌, ◌⊎◌, ℕ, true, List, Option, Some}
+-- What a run prints, and what its statuses say. This project's own rules.
+use Rattle.std.specs.Prelude.{◌≡◌, ◌⊎◌, ℕ, List, [], Option, Some, IsSome, IfSome}
+use Rattle.std.specs.List.{filter_map}
 use Rattle.kte_causes.specs.Faults.{Rose}
 use Rattle.kte_causes.specs.Contents.{Gains, GainsPrefix}
+use Rattle.kte_causes.specs.DiskFaults.{AllStay}
 use Rattle.kte_causes.specs.declared.causes.DiskCall.{DiskCall}
 use Rattle.kte_causes.specs.declared.causes.DiskCall.TheVariants.{SavedLen, SavedAt}
-use Rattle.kte_text.specs.Loading.{is_loadable, lines_of}
+use Rattle.kte_text.specs.Files.{Loads, Refuses}
+use Rattle.kte_text.specs.declared.loading.Loaded.{Loaded}
+use Rattle.kte_text.specs.declared.loading.LoadFault.{LoadFault}
 use Rattle.kte_core.specs.React.{State, text_of}
-use Rattle.kte_core.specs.Replay.{beginning, after_commands, replies_of}
+use Rattle.kte_core.specs.Replay.{beginning, replay, Legal}
+use Rattle.kte_core.specs.declared.event.Event.{Event}
 use Rattle.kte_core.specs.declared.request.Command.{Command}
-use Rattle.kte_run.specs.declared.TheConstants.{MOST_REVISIONS}
+use Rattle.kte_core.specs.declared.request.Request.{Request}
+use Rattle.kte_core.specs.declared.request.Request.TheVariants.{Cmd}
+use Rattle.kte_run.specs.declared.TheConstants.{MAX_REVISIONS}
 use Rattle.kte_run.specs.Output.{output_of}
 use Rattle.kte_run.specs.Script.{script_of}
 
--- what is edited at first: the lines of the saved file
-abbrev pub start_of : List ℕ → State
-start_of file = beginning (lines_of file) MOST_REVISIONS
+-- the state at first
+abbrev pub start_of : Loaded → State
+start_of loaded = beginning loaded MAX_REVISIONS
 
--- the output for a script's commands and a saved file
-abbrev pub printed : List Command → List ℕ → List ℕ
-printed commands file =
-    output_of (replies_of (start_of file) commands) (text_of (after_commands (start_of file) commands).editing)
+-- the command of a request, if it is one
+abbrev pub command_in : Request → Option Command
+command_in (Cmd command) = Some command
 
--- the script spells commands, the file can be loaded, and what was written is their output
-abbrev pub Succeeds : List ℕ → List ℕ → Option (List ℕ) → Option (List ℕ) → Type 0
-Succeeds script file before after =
-    (commands : List Command) × (script_of script ≡ Some commands) × (is_loadable file ≡ true) × Gains (printed commands file) before after
+-- the commands among some events, in order
+abbrev pub commands_in : List Event → List Command
+commands_in events = filter_map (λ event. command_in event.request) events
+
+-- What is printed for some commands after loading: there is a journal that is legal from the
+-- beginning and whose commands are these, in order, and the output is that of its events and of the
+-- text after them
+pub record Prints (commands : List Command) (loaded : Loaded) (output : List ℕ) : Type 0 where
+  pub events : List Event
+  pub legal : Legal (start_of loaded) events
+  pub ordered : commands_in events ≡ commands
+  pub printed : output ≡ output_of events (text_of (replay (start_of loaded) events).editing)
+
+-- a file that is not refused
+abbrev pub IsLoadable : List ℕ → Type 0
+IsLoadable file = (fault : LoadFault) → ¬ (Refuses file fault)
+
+-- What is printed for a script and a file: the script spells commands, the file is loaded, and the
+-- output is printed for them
+pub record Outputs (script file output : List ℕ) : Type 0 where
+  pub commands : List Command
+  pub spelled : script_of script ≡ Some commands
+  pub loaded : Loaded
+  pub loads : Loads file loaded
+  pub prints : Prints commands loaded output
+
+-- what was written is the output for this script and this file
+pub record Writes (script file : List ℕ) (before after : Option (List ℕ)) : Type 0 where
+  pub output : List ℕ
+  pub outputs : Outputs script file output
+  pub gains : Gains output before after
+
+-- what was written is the first bytes of that output
+pub record WritesPrefix (script file : List ℕ) (before after : Option (List ℕ)) : Type 0 where
+  pub output : List ℕ
+  pub outputs : Outputs script file output
+  pub gains : GainsPrefix output before after
+
+-- the script was read to its end without a fault, and spells commands
+pub record ReadsScript (before after : Option (List ℕ)) (faults later_faults : ℕ) : Type 0 where
+  pub whole : IfSome after (λ rest. rest ≡ [])
+  pub calm : later_faults ≡ faults
+  pub spells : IfSome before (λ bytes. IsSome (script_of bytes))
+
+-- the file was read without a fault, and is not refused
+pub record LoadsFile (file : Option (List ℕ)) (faults later_faults : DiskCall → ℕ) : Type 0 where
+  pub calm : AllStay faults later_faults
+  pub loads : IfSome file IsLoadable
 
 -- the disk has counted a fault of a length or of a read
 abbrev pub DiskRose : (DiskCall → ℕ) → (DiskCall → ℕ) → Type 0
-DiskRose before after = Rose (before SavedLen) (after SavedLen) ⊎ Rose (before SavedAt) (after SavedAt)
-
--- what was written is the output's first bytes, or none of them; none where the script does not spell commands or the file is not read
-abbrev pub WritesPrefix : List ℕ → List ℕ → Option (List ℕ) → Option (List ℕ) → Type 0
-WritesPrefix script file before after =
-    (after ≡ before) ⊎ ((commands : List Command) × (script_of script ≡ Some commands) × (is_loadable file ≡ true) × GainsPrefix (printed commands file) before after)
+DiskRose before after = Rose (before SavedLen) (after SavedLen)
+    ⊎ Rose (before SavedAt) (after SavedAt)

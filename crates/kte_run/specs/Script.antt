@@ -1,5 +1,6 @@
--- The script: which commands its lines spell. This project's own form: on each line a command's word and its fields, with one space
--- between each two, and LF at the line's end, which the last line may lack.
+-- The script: which commands its lines spell. This project's own form: on each line a command's
+-- word and its fields, with one space between each two, and LF at the line's end, which the last
+-- line may lack.
 use Rattle.std.specs.Prelude.{◌==◌, ℕ, ◌+◌, ◌-◌, Bool, true, false, slice_index, List, [], ◌∷◌, length, take, drop, codes, nat_le, nat_lt, nat_eq, ◌&&◌, not, min, max, Option, Some, None, if◌then◌else◌}
 use Rattle.std.specs.Option.{option_and_then, option_map}
 use Rattle.std.specs.List.{position, list_all, slice_split}
@@ -15,57 +16,61 @@ use Rattle.kte_place.specs.Place.{at}
 use Rattle.kte_place.specs.Span.{between}
 use Rattle.kte_core.specs.declared.request.Command.{Command}
 use Rattle.kte_core.specs.declared.request.Command.TheVariants.{Put, MakeRange, SetRange, DropRange, ShowRange}
-use Rattle.kte_run.specs.declared.TheConstants.{LONGEST_SCRIPT, GREATEST_NUMBER, GREATEST_ID, MOST_DIGITS}
+use Rattle.kte_place.specs.declared.place.TheConstants.{MAX_REACH}
+use Rattle.kte_run.specs.declared.TheConstants.{MAX_SCRIPT_LENGTH, MAX_ID, MAX_DIGITS}
 
 infixl 10 ◌>>=◌
 abbrev pub ◌>>=◌ : {A B : Type 0} → Option A → (A → Option B) → Option B
 o >>= f = option_and_then f o
 
--- a field, and what stands behind the one space that ends it
+-- a field, and the bytes after the one space that ends it
 pub record Field : Type 0 where
   pub word : List ℕ
   pub rest : List ℕ
 
--- the field at the front, where a space ends it
+-- the first field, if a space ends it
 unfoldable pub field_of : List ℕ → Option Field
-field_of bytes = option_map (λ n. record { word = take n bytes; rest = drop (n + 1) bytes }) (position (λ byte. byte == 32) bytes)
+field_of bytes = option_map (λ n. record { word = take n bytes; rest = drop (n + 1) bytes })
+    (position (λ byte. byte == 32) bytes)
 
 -- a number: one to ten decimal digits, whose value is at most this one
 unfoldable pub number_up_to : ℕ → List ℕ → Option ℕ
 number_up_to most word =
-    if nat_lt 0 (length word) && nat_le (length word) MOST_DIGITS && list_all is_ascii_digit word && nat_le (digits_value 10 word) most
+    if nat_lt 0 (length word) && nat_le (length word) MAX_DIGITS
+    && list_all is_ascii_digit word && nat_le (digits_value 10 word) most
     then Some (digits_value 10 word)
     else None
 
 -- a line or a column: at most 2^30
 abbrev pub number_of : List ℕ → Option ℕ
-number_of word = number_up_to GREATEST_NUMBER word
+number_of word = number_up_to MAX_REACH word
 
 -- the number of a range: at most 2^32 - 1
 abbrev pub id_of : List ℕ → Option ℕ
-id_of word = number_up_to GREATEST_ID word
+id_of word = number_up_to MAX_ID word
 
 -- a character of a string: printable ASCII, but neither a quotation mark nor a backslash
 abbrev pub is_string_byte : ℕ → Bool
 is_string_byte byte = nat_le 32 byte && nat_le byte 126 && not (byte == 34) && not (byte == 92)
 
--- what stands between the first and the last character
+-- the bytes between the first and the last
 abbrev pub inner : List ℕ → List ℕ
 inner word = take (length word - 2) (drop 1 word)
 
 -- a string: such characters between two quotation marks
 unfoldable pub string_of : List ℕ → Option (List ℕ)
 string_of word =
-    if nat_le 2 (length word) && slice_index word 0 == 34 && slice_index word (length word - 1) == 34 && list_all is_string_byte (inner word)
+    if nat_le 2 (length word) && slice_index word 0 == 34
+    && slice_index word (length word - 1) == 34 && list_all is_string_byte (inner word)
     then Some (inner word)
     else None
 
--- a place, and what stands behind the space that ends it
+-- a place, and the bytes after the space that ends it
 pub record PlaceField : Type 0 where
   pub place : Place
   pub rest : List ℕ
 
--- `L C` at the front, where a space ends it
+-- `L C` in front, if a space ends it
 unfoldable pub place_field_of : List ℕ → Option PlaceField
 place_field_of bytes = do
   line ← field_of bytes
@@ -74,7 +79,7 @@ place_field_of bytes = do
   c ← number_of column.word
   Some (record { place = at l c; rest = column.rest })
 
--- `L C`, all of it
+-- `L C` alone
 unfoldable pub place_of : List ℕ → Option Place
 place_of bytes = do
   line ← field_of bytes
@@ -98,7 +103,7 @@ empty_of word =
     else if bytes_eq word (codes "void") then Some Void
     else None
 
--- `insert L C STRING`, behind its first word, as all that follow
+-- `insert L C STRING` after its first word, as all below
 unfoldable pub insert_of : List ℕ → Option Command
 insert_of bytes = do
   place ← place_field_of bytes
@@ -121,7 +126,8 @@ unwrap_of bytes = do
 abbrev pub removal_of : Place → Place → Option Command
 removal_of a b =
     if a.line == b.line
-    then Some (Put (Remove a.line (min a.column b.column) (max a.column b.column - min a.column b.column)))
+    then Some (Put (Remove a.line (min a.column b.column)
+    (max a.column b.column - min a.column b.column)))
     else None
 
 -- `remove L C L C`, both lines equal
@@ -150,7 +156,7 @@ setrange_of bytes = do
   last ← place_of first.rest
   Some (SetRange id (between first.place last))
 
--- a command's fields, by its word
+-- a command by its first word and the bytes after it
 unfoldable pub named : List ℕ → List ℕ → Option Command
 named word rest =
     if bytes_eq word (codes "insert") then insert_of rest
@@ -179,11 +185,14 @@ commands_of (line ∷ lines) = do
 
 -- the lines of a script without the LF that ends the last of them
 abbrev pub lines_of : List ℕ → List ℕ
-lines_of bytes = if bytes_eq (drop (length bytes - 1) bytes) (10 ∷ []) then take (length bytes - 1) bytes else bytes
+lines_of bytes =
+    if bytes_eq (drop (length bytes - 1) bytes) (10 ∷ []) then take (length bytes - 1) bytes
+    else bytes
 
--- the commands of a script, where each of its lines spells one, and it is not too long; an empty script has none
+-- the commands of a script that is not too long, if each of its lines spells one; an empty script
+-- has none
 abbrev pub script_of : List ℕ → Option (List Command)
 script_of bytes =
-    if nat_lt LONGEST_SCRIPT (length bytes) then None
+    if nat_lt MAX_SCRIPT_LENGTH (length bytes) then None
     else if nat_eq (length bytes) 0 then Some []
     else commands_of (slice_split (λ byte. byte == 10) (lines_of bytes))

@@ -1,8 +1,15 @@
--- The statuses: their codes, their lines, and the order in which they come. This project's own rules.
-use Rattle.std.specs.Prelude.{ℕ, ◌≤◌, Bool, true, false, List, [], ◌++◌, codes}
+-- The statuses: their codes, their lines, and the faults that they stand for. This project's own
+-- rules.
+use Rattle.std.specs.Prelude.{ℕ, Bool, true, false, List, [], ◌++◌, codes, Option, None, Some}
 use Rattle.std.specs.Fmt.{decimal}
 use Rattle.kte_causes.specs.declared.causes.DiskFail.{DiskFail}
-use Rattle.kte_causes.specs.declared.causes.DiskFail.TheVariants as fail
+use Rattle.kte_causes.specs.declared.causes.DiskFail.TheVariants as disk
+use Rattle.kte_causes.specs.declared.causes.ReadFault.{ReadFault}
+use Rattle.kte_causes.specs.declared.causes.ReadFault.TheVariants as read
+use Rattle.kte_causes.specs.declared.causes.SinkFail.{SinkFail}
+use Rattle.kte_causes.specs.declared.causes.SinkFail.TheVariants as sink
+use Rattle.kte_text.specs.declared.loading.LoadFault.{LoadFault}
+use Rattle.kte_text.specs.declared.loading.LoadFault.TheVariants as load
 use Rattle.kte_run.specs.declared.status.Status.{Status}
 use Rattle.kte_run.specs.declared.status.Status.TheVariants as status
 
@@ -14,8 +21,14 @@ code_of (status.BadWords at) = 2
 code_of status.ReadFault = 3
 code_of status.BadScript = 4
 code_of status.DiskFault = 5
+code_of (status.NotUtf8 at) = 6
+code_of (status.TooLarge size) = 7
 code_of status.WriteFault = 10
-code_of status.NotYet = 15
+
+-- a text that is too large, or a file that is too long for its text to be told
+abbrev pub too_large_line : Option ℕ → List ℕ
+too_large_line None = codes "kted: file too long"
+too_large_line (Some size) = codes "kted: text too large: " ++ decimal size
 
 -- the line on standard error, without its end
 abbrev pub error_line : Status → List ℕ
@@ -25,37 +38,53 @@ error_line (status.BadWords at) = codes "kted: word " ++ decimal at ++ codes " d
 error_line status.ReadFault = codes "kted: reading the script failed"
 error_line status.BadScript = codes "kted: the script does not fit"
 error_line status.DiskFault = codes "kted: the disk failed"
+error_line (status.NotUtf8 at) = codes "kted: file is not UTF-8 at byte " ++ decimal at
+error_line (status.TooLarge size) = too_large_line size
 error_line status.WriteFault = codes "kted: writing failed"
-error_line status.NotYet = codes "kted: this form of file is not read yet"
 
--- In the order in which a run tests: the words, reading the script, its form, the disk, the file's form, writing.
--- Want of memory may come at any of them
-abbrev pub rank_of : Status → ℕ
-rank_of status.Ok = 7
-rank_of status.NoMemory = 0
-rank_of (status.BadWords at) = 1
-rank_of status.ReadFault = 2
-rank_of status.BadScript = 3
-rank_of status.DiskFault = 4
-rank_of status.NotYet = 5
-rank_of status.WriteFault = 6
+-- the status of a script that was not read
+abbrev pub script_status : ReadFault → Status
+script_status read.Failed = status.ReadFault
+script_status read.TooLong = status.BadScript
+script_status read.NoMemory = status.NoMemory
 
--- the status comes no later than another one
-abbrev pub ComesBy : Status → Status → Type 0
-ComesBy last answer = rank_of answer ≤ rank_of last
+-- the status of a call of the disk that failed
+abbrev pub disk_status : DiskFail → Status
+disk_status disk.Failed = status.DiskFault
+disk_status disk.NoMemory = status.NoMemory
 
--- nothing is written with this status
-abbrev pub is_silent : Status → Bool
-is_silent status.Ok = false
-is_silent status.NoMemory = false
-is_silent (status.BadWords at) = true
-is_silent status.ReadFault = true
-is_silent status.BadScript = true
-is_silent status.DiskFault = true
-is_silent status.NotYet = true
-is_silent status.WriteFault = false
+-- the status of a file that is not loaded
+abbrev pub file_status : LoadFault → Status
+file_status load.LongFile = status.TooLarge None
+file_status (load.NotUtf8 at) = status.NotUtf8 at
+file_status (load.TooLarge size) = status.TooLarge (Some size)
+file_status load.NoMemory = status.NoMemory
 
--- the status of a call on the disk that failed
-abbrev pub status_of : DiskFail → Status
-status_of fail.Failed = status.DiskFault
-status_of fail.NoMemory = status.NoMemory
+-- the status of a write that failed
+abbrev pub sink_status : SinkFail → Status
+sink_status sink.Failed = status.WriteFault
+sink_status sink.NoMemory = status.NoMemory
+
+-- the statuses with which reading the script may end a run
+abbrev pub is_of_script : Status → Bool
+is_of_script status.Ok = false
+is_of_script status.NoMemory = true
+is_of_script (status.BadWords at) = false
+is_of_script status.ReadFault = true
+is_of_script status.BadScript = true
+is_of_script status.DiskFault = false
+is_of_script (status.NotUtf8 at) = false
+is_of_script (status.TooLarge size) = false
+is_of_script status.WriteFault = false
+
+-- the statuses with which loading the file may end a run
+abbrev pub is_of_file : Status → Bool
+is_of_file status.Ok = false
+is_of_file status.NoMemory = true
+is_of_file (status.BadWords at) = false
+is_of_file status.ReadFault = false
+is_of_file status.BadScript = false
+is_of_file status.DiskFault = true
+is_of_file (status.NotUtf8 at) = true
+is_of_file (status.TooLarge size) = true
+is_of_file status.WriteFault = false

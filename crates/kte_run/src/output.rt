@@ -1,108 +1,141 @@
 ghost use Rattle.std.specs.Prelude.{◌≡◌, ◌∷◌, ◌++◌, codes, IfOk, OnOk, string_bytes};
-ghost use Rattle.kte_run.specs.Output.{spaced, misfit_text, refusal_text, span_text, reply_text, reply_line, line_text};
 ghost use Rattle.std.specs.List.{flat_map};
+ghost use Rattle.kte_text.specs.Units.{IsLine};
+ghost use Rattle.kte_run.specs.Output.{spaced, misfit_text, refusal_text, span_text, reply_text, event_line, line_text, output_of};
 
-use kte_core::{Refusal, Reply};
+use kte_core::{Event, Journal, Refusal, Reply};
 use kte_place::{Place, Span};
-use kte_text::{Misfit, Text};
+use kte_text::{Lines, Misfit, push_utf8};
 use std::alloc::{AllocError, Global};
+use std::fmt::Write;
 
-fn misfit(alloc: Global, misfit: &Misfit) -> Result<String, AllocError>
-    ensures { IfOk result (λ text. string_bytes text ≡ misfit_text misfit.now) }
+/// Returns the whole output: a line for each event, the line `text`, and the lines of the text.
+pub(crate) fn output<L: Lines>(
+    alloc: Global,
+    journal: &Journal,
+    lines: &L,
+) -> Result<Vec<u8>, AllocError>
+    ensures { IfOk result (λ output. output.items ≡ output_of journal.now (L.text lines.now)) }
 {
-    match misfit {
-        Misfit::NoLine { line } => format!(in alloc; "noline {line}"),
-        Misfit::NoColumn { line, column } => format!(in alloc; "nocolumn {line} {column}"),
-        Misfit::SplitsPair { line, column } => format!(in alloc; "splitspair {line} {column}"),
-        Misfit::FirstLine => String::from_str(alloc, "firstline"),
-        Misfit::TooLarge { size } => format!(in alloc; "toolarge {size}"),
+    let mut output = String::new(alloc);
+    push_events(&mut output, journal)?;
+    output.push_str("text\n")?;
+    let mut output = output.into_bytes();
+    push_lines(&mut output, lines)?;
+    Ok(output)
+}
+
+/// Appends the line of each event.
+fn push_events(output: &mut String, journal: &Journal) -> Result<(), AllocError>
+    ensures { OnOk result (string_bytes output.new
+        ≡ string_bytes output.old ++ flat_map event_line journal.now) }
+{
+    for n in 0..journal.len() {
+        push_event(output, journal.get(n))?;
     }
+    Ok(())
 }
 
-fn refusal(alloc: Global, refusal: &Refusal) -> Result<String, AllocError>
-    ensures { IfOk result (λ text. string_bytes text ≡ refusal_text refusal.now) }
+/// Appends each line of the text.
+fn push_lines<L: Lines>(output: &mut Vec<u8>, lines: &L) -> Result<(), AllocError>
+    ensures { OnOk result (output.new.items ≡ output.old.items
+        ++ flat_map line_text (L.text lines.now)) }
 {
-    match refusal {
-        Refusal::Misfit(cause) => misfit(alloc, cause),
-        Refusal::RevisionsFull { revision } => format!(in alloc; "revisionsfull {revision}"),
-        Refusal::NoRange { id } => format!(in alloc; "norange {id}"),
+    for n in 0..lines.lines() {
+        push_line(output, lines.line(n))?;
     }
+    Ok(())
 }
 
-fn span_text(alloc: Global, span: &Option<Span>) -> Result<String, AllocError>
-    ensures { IfOk result (λ text. string_bytes text ≡ span_text span.now) }
+/// Appends the line of an event.
+fn push_event(output: &mut String, event: &Event) -> Result<(), AllocError>
+    ensures { OnOk result (string_bytes output.new ≡ string_bytes output.old
+        ++ event_line event.now) }
 {
-    match span {
-        Some(span) => {
-            let start = place_text(alloc, &span.start)?;
-            let end = place_text(alloc, &span.end)?;
-            format!(in alloc; "{start}{end}")
-        }
-        None => String::from_str(alloc, " invalid"),
-    }
+    push_reply(output, &event.reply)?;
+    output.push('\n')
 }
 
-fn place_text(alloc: Global, place: &Place) -> Result<String, AllocError>
-    ensures { IfOk result
-        (λ text. string_bytes text ≡ spaced place.now.line ++ spaced place.now.column) }
-{
-    let line = place.line;
-    let column = place.column;
-    format!(in alloc; " {line} {column}")
-}
-
-fn reply(alloc: Global, reply: &Reply) -> Result<String, AllocError>
-    ensures { IfOk result (λ text. string_bytes text ≡ reply_text reply.now) }
+/// Appends the spelling of a reply.
+fn push_reply(output: &mut String, reply: &Reply) -> Result<(), AllocError>
+    ensures { OnOk result (string_bytes output.new ≡ string_bytes output.old
+        ++ reply_text reply.now) }
 {
     match reply {
         Reply::Edited {
             steps,
             revision,
             depth,
-        } => format!(in alloc; "edited {steps} {revision} {depth}"),
+        } => write!(output, "edited {steps} {revision} {depth}"),
         Reply::Range { id, span } => {
-            let span = span_text(alloc, span)?;
-            format!(in alloc; "range {id}{span}")
+            write!(output, "range {id}")?;
+            push_span(output, span)
         }
-        Reply::Dropped { id } => format!(in alloc; "dropped {id}"),
-        Reply::Refused(cause) => {
-            let cause = refusal(alloc, cause)?;
-            format!(in alloc; "refused {cause}")
+        Reply::Dropped { id } => write!(output, "dropped {id}"),
+        Reply::Refused(refusal) => {
+            output.push_str("refused ")?;
+            push_refusal(output, refusal)
         }
     }
 }
 
-/// Adds a line of the text.
-fn push_line(alloc: Global, output: &mut String, units: &[u16]) -> Result<(), AllocError>
-    ensures { OnOk result (string_bytes output.new ≡ string_bytes output.old ++ line_text units.now) }
+/// Appends a space and a span.
+fn push_span(output: &mut String, span: &Option<Span>) -> Result<(), AllocError>
+    ensures { OnOk result (string_bytes output.new ≡ string_bytes output.old
+        ++ span_text span.now) }
 {
-    let line = String::from_utf16_lossy(alloc, units)?;
-    output.push('|')?;
-    output.push_str(&line)?;
-    output.push('\n')
+    match span {
+        Some(span) => {
+            push_place(output, &span.start)?;
+            push_place(output, &span.end)
+        }
+        None => output.push_str(" invalid"),
+    }
 }
 
-/// Adds a line for a reply.
-pub(crate) fn push_reply(
-    alloc: Global,
-    output: &mut String,
-    answer: &Reply,
-) -> Result<(), AllocError>
-    ensures { OnOk result (string_bytes output.new ≡ string_bytes output.old ++ reply_line answer.now) }
-{
-    let text = reply(alloc, answer)?;
-    output.push_str(&text)?;
-    output.push('\n')
-}
-
-/// Adds the line `text`, and each line of the text.
-pub(crate) fn push_text(alloc: Global, output: &mut String, text: &Text) -> Result<(), AllocError>
+/// Appends a space and a place.
+fn push_place(output: &mut String, place: &Place) -> Result<(), AllocError>
     ensures { OnOk result (string_bytes output.new
-        ≡ string_bytes output.old ++ codes "text" ++ 10 ∷ flat_map line_text text.now) }
+        ≡ string_bytes output.old ++ spaced place.now.line ++ spaced place.now.column) }
 {
-    output.push_str("text\n")?;
-    for n in 0..text.len() {
-        push_line(alloc, output, text.get(n).units())?;
+    let line = place.line;
+    let column = place.column;
+    write!(output, " {line} {column}")
+}
+
+/// Appends why a request is refused.
+fn push_refusal(output: &mut String, refusal: &Refusal) -> Result<(), AllocError>
+    ensures { OnOk result (string_bytes output.new ≡ string_bytes output.old
+        ++ refusal_text refusal.now) }
+{
+    match refusal {
+        Refusal::Misfit(misfit) => push_misfit(output, misfit),
+        Refusal::RevisionsFull { revision } => write!(output, "revisionsfull {revision}"),
+        Refusal::NoRange { id } => write!(output, "norange {id}"),
     }
+}
+
+/// Appends why an edit does not fit.
+fn push_misfit(output: &mut String, misfit: &Misfit) -> Result<(), AllocError>
+    ensures { OnOk result (string_bytes output.new ≡ string_bytes output.old
+        ++ misfit_text misfit.now) }
+{
+    match misfit {
+        Misfit::NoLine { line } => write!(output, "noline {line}"),
+        Misfit::NoColumn { line, column } => write!(output, "nocolumn {line} {column}"),
+        Misfit::SplitsPair { line, column } => write!(output, "splitspair {line} {column}"),
+        Misfit::FirstLine => output.push_str("firstline"),
+        Misfit::TooLarge { size } => write!(output, "toolarge {size}"),
+    }
+}
+
+/// Appends a line of the text.
+fn push_line(output: &mut Vec<u8>, units: &[u16]) -> Result<(), AllocError>
+    requires { IsLine units.now }
+    ensures { OnOk result (output.new.items ≡ output.old.items ++ line_text units.now) }
+{
+    output.push(b'|')?;
+    push_utf8(units, output)?;
+    output.push(b'\n')?;
     Ok(())
 }

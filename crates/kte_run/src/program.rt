@@ -1,27 +1,30 @@
-ghost use Rattle.std.specs.Prelude.{◌≡◌, ◌≢◌, ◌↔◌, ◌⊎◌, true, false, [], ◌∷◌, None, Some, IsSome, IfOk, IfErr, IfSome, IsErrOf, IsSomeAnd, OnOk, All, Contains, string_bytes};
+ghost use Rattle.std.specs.Prelude.{◌≡◌, ◌≢◌, ◌<◌, ◌↔◌, ◌⊎◌, true, [], ◌∷◌, Err, None, Some, IsSome, IfOk, IfErr, IfSome, IsErrOf, IsSomeAnd, OnOk, All, Contains};
 ghost use Rattle.kte_causes.specs.Faults.{Rose};
-ghost use Rattle.kte_causes.specs.Contents.{Gains, GainsPrefix};
 ghost use Rattle.kte_causes.specs.DiskFaults.{AllStay};
-ghost use Rattle.kte_text.specs.Loading.{is_loadable, Loads};
+ghost use Rattle.kte_text.specs.Files.{Refuses};
+ghost use Rattle.kte_text.specs.declared.loading.LoadFault.TheVariants.{NoMemory};
 ghost use Rattle.kte_core.specs.Requests.{InRange};
 ghost use Rattle.kte_run.specs.Words.{words_fault};
 ghost use Rattle.kte_run.specs.Script.{script_of};
-ghost use Rattle.kte_run.specs.Run.{Succeeds, WritesPrefix, DiskRose, printed};
-ghost use Rattle.kte_run.specs.Statuses.{ComesBy, is_silent};
+ghost use Rattle.kte_run.specs.Run.{IsLoadable, Prints, Writes, WritesPrefix, ReadsScript, LoadsFile, DiskRose};
+ghost use Rattle.kte_run.specs.Statuses.{file_status, is_of_script};
 
-use crate::output::{push_reply, push_text};
+use crate::output::output;
 use crate::saved::load_saved;
 use crate::script::read_script;
 use crate::status::Status;
 use crate::words::{self, Word};
-use crate::{LONGEST_SCRIPT, MOST_REVISIONS};
-use kte_causes::{Disk, ReadFault, Sink, SinkFail, Source, read_whole, write_whole};
+use crate::{MAX_REVISIONS, MAX_SCRIPT_LENGTH};
+use kte_causes::{Disk, Sink, Source, read_whole, write_whole};
 use kte_core::{Command, Core, Request};
 use kte_text::Loaded;
 use std::alloc::{AllocError, Global};
 
-/// Does what the words say: `edit FILE` reads a script from the source, carries out its commands on the text of the
-/// disk's saved file, and writes their replies and the text to the sink.
+/// Does what the words say: `edit FILE` reads a script from the source, carries out its commands on
+/// the text of the disk's saved file, and writes their replies and the text to the sink.
+///
+/// The words are judged first, then the script, then the file, and the output is written last. A
+/// status says that all before it went well, and nothing is asked of what comes after it.
 pub fn run<R, S: Source, O: Sink, D: Disk>(
     _rt: &R,
     alloc: Global,
@@ -30,43 +33,73 @@ pub fn run<R, S: Source, O: Sink, D: Disk>(
     disk: &mut D,
     out: &mut O,
 ) -> Status
-    // What was written are the replies and the text that the definitions give for this script and this file.
-    ensures ok { result ≡ Status.Ok → IfSome (S.left script.old) (λ bytes. IfSome (D.saved disk.old) (λ file.
-        Succeeds bytes file (O.got out.old) (O.got out.new))) }
-    ensures whole { result ≡ Status.Ok → IfSome (S.left script.new) (λ rest. rest ≡ []) }
+    // With status 0 all was read, and what was written is the output for this script and this file.
+    ensures ok { result ≡ Status.Ok
+        → IfSome (S.left script.old) (λ bytes. IfSome (D.saved disk.old) (λ file.
+        Writes bytes file (O.got out.old) (O.got out.new))) }
+    ensures ok_before { result ≡ Status.Ok
+        → ReadsScript (S.left script.old) (S.left script.new) (S.faults script.old)
+        (S.faults script.new)
+        × LoadsFile (D.saved disk.old) (D.faults disk.old) (D.faults disk.new)
+        × (O.faults out.new ≡ O.faults out.old) }
 
-    // Each other status has its cause.
-    ensures bad_words { (at : _) → (result ≡ Status.BadWords at) ↔ (words_fault words.now ≡ Some at) }
-    ensures unread { (at : _) → result ≡ Status.BadWords at → S.left script.new ≡ S.left script.old }
-    ensures read_fault { result ≡ Status.ReadFault → Rose (S.faults script.old) (S.faults script.new) }
-    ensures bad_script { result ≡ Status.BadScript
-        → IfSome (S.left script.old) (λ bytes. script_of bytes ≡ None) }
-    ensures disk_fault { result ≡ Status.DiskFault → DiskRose (D.faults disk.old) (D.faults disk.new) }
-    ensures not_yet { result ≡ Status.NotYet
-        → IfSome (D.saved disk.old) (λ file. is_loadable file ≡ false) }
-    ensures write_fault { result ≡ Status.WriteFault → Rose (O.faults out.old) (O.faults out.new) }
+    // The words.
+    ensures bad_words { (at : _)
+        → (result ≡ Status.BadWords at) ↔ (words_fault words.now ≡ Some at) }
+    ensures bad_words_alone { (at : _) → result ≡ Status.BadWords at
+        → (script.new ≡ script.old) × (disk.new ≡ disk.old) × (out.new ≡ out.old) }
 
-    // A cause brings its status, unless an earlier one or want of memory comes first.
-    ensures bad_script_comes { IsSomeAnd (S.left script.old) (λ bytes. script_of bytes ≡ None)
-        → ComesBy Status.BadScript result }
-    ensures not_yet_comes { IsSomeAnd (D.saved disk.old) (λ file. is_loadable file ≡ false)
-        → ComesBy Status.NotYet result }
+    // The script.
+    ensures read_fault { result ≡ Status.ReadFault
+        → Rose (S.faults script.old) (S.faults script.new) × (disk.new ≡ disk.old)
+        × (out.new ≡ out.old) }
+    ensures read_fault_comes { S.faults script.old < S.faults script.new
+        → result ≡ Status.ReadFault }
+    ensures bad_script { result ≡ Status.BadScript → (S.faults script.new ≡ S.faults script.old)
+        × IfSome (S.left script.old) (λ bytes. script_of bytes ≡ None)
+        × (disk.new ≡ disk.old) × (out.new ≡ out.old) }
+    ensures bad_script_comes { words_fault words.now ≡ None
+        → IsSomeAnd (S.left script.old) (λ bytes. script_of bytes ≡ None)
+        → Contains (Status.BadScript ∷ Status.ReadFault ∷ Status.NoMemory ∷ []) result }
 
-    // Where words, script and file are of their forms and nothing failed, all is done, unless memory ran out.
-    ensures complete { words_fault words.now ≡ None
+    // The disk and the file.
+    ensures disk_fault { result ≡ Status.DiskFault
+        → ReadsScript (S.left script.old) (S.left script.new) (S.faults script.old)
+        (S.faults script.new)
+        × DiskRose (D.faults disk.old) (D.faults disk.new) × (out.new ≡ out.old) }
+    ensures disk_fault_comes { (call : _) → D.faults disk.old call < D.faults disk.new call
+        → result ≡ Status.DiskFault }
+    ensures refused { (fault : _) → fault ≢ NoMemory → result ≡ file_status fault
+        → ReadsScript (S.left script.old) (S.left script.new) (S.faults script.old)
+        (S.faults script.new)
+        × AllStay (D.faults disk.old) (D.faults disk.new)
+        × IfSome (D.saved disk.old) (λ file. Refuses file fault) × (out.new ≡ out.old) }
+    ensures refused_comes { (fault : _) → words_fault words.now ≡ None
         → IsSomeAnd (S.left script.old) (λ bytes. IsSome (script_of bytes))
-        → IsSomeAnd (D.saved disk.old) (λ file. is_loadable file ≡ true)
-        → ¬ Rose (S.faults script.old) (S.faults script.new)
-        → ¬ DiskRose (D.faults disk.old) (D.faults disk.new)
-        → ¬ Rose (O.faults out.old) (O.faults out.new)
-        → (result ≡ Status.Ok) ⊎ (result ≡ Status.NoMemory) }
+        → IsSomeAnd (D.saved disk.old) (λ file. Refuses file fault)
+        → Contains (file_status fault ∷ Status.DiskFault ∷ Status.ReadFault ∷ Status.NoMemory ∷ []) result }
+    ensures saved { D.saved disk.new ≡ D.saved disk.old }
 
-    // Nothing is written but the output, or the first of it where writing failed.
-    ensures silent { is_silent result ≡ true → O.got out.new ≡ O.got out.old }
+    // The output.
+    ensures write_fault { result ≡ Status.WriteFault
+        → ReadsScript (S.left script.old) (S.left script.new) (S.faults script.old)
+        (S.faults script.new)
+        × LoadsFile (D.saved disk.old) (D.faults disk.old) (D.faults disk.new)
+        × Rose (O.faults out.old) (O.faults out.new) }
+    ensures write_fault_comes { O.faults out.old < O.faults out.new → result ≡ Status.WriteFault }
+    // Nothing but the first bytes of the output is written where writing fails or memory runs out.
     ensures prefix { (result ≡ Status.WriteFault) ⊎ (result ≡ Status.NoMemory)
         → IfSome (S.left script.old) (λ bytes. IfSome (D.saved disk.old) (λ file.
-        WritesPrefix bytes file (O.got out.old) (O.got out.new))) }
-    ensures saved { D.saved disk.new ≡ D.saved disk.old }
+        (O.got out.new ≡ O.got out.old)
+        ⊎ WritesPrefix bytes file (O.got out.old) (O.got out.new))) }
+
+    // With words, script and file of their forms, nothing but a fault or a lack of memory prevents
+    // status 0.
+    ensures complete { words_fault words.now ≡ None
+        → IsSomeAnd (S.left script.old) (λ bytes. IsSome (script_of bytes))
+        → IsSomeAnd (D.saved disk.old) IsLoadable
+        → Contains (Status.Ok ∷ Status.ReadFault ∷ Status.DiskFault ∷ Status.WriteFault ∷ Status.NoMemory ∷ [])
+        result }
 {
     if let Err(fault) = words::check(words) {
         return Status::BadWords { at: fault.at };
@@ -82,10 +115,9 @@ pub fn run<R, S: Source, O: Sink, D: Disk>(
     let Ok(output) = edited(alloc, loaded, commands) else {
         return Status::NoMemory;
     };
-    match write_whole(out, output.as_bytes()) {
+    match write_whole(out, &output) {
         Ok(()) => Status::Ok,
-        Err(SinkFail::Failed) => Status::WriteFault,
-        Err(SinkFail::NoMemory) => Status::NoMemory,
+        Err(fail) => Status::from(fail),
     }
 }
 
@@ -95,37 +127,28 @@ fn read_commands<S: Source>(alloc: Global, script: &mut S) -> Result<Vec<Command
         (λ bytes. script_of bytes ≡ Some commands.items)) }
     ensures in_range { IfOk result (λ commands. All InRange commands.items) }
     ensures whole { OnOk result (IfSome (S.left script.new) (λ rest. rest ≡ [])) }
-    ensures only { IfErr result (Contains (Status.ReadFault ∷ Status.BadScript ∷ Status.NoMemory ∷ [])) }
-    ensures failed { IsErrOf result Status.ReadFault → Rose (S.faults script.old) (S.faults script.new) }
+    ensures calm { OnOk result (S.faults script.new ≡ S.faults script.old) }
+    ensures only { IfErr result (λ status. is_of_script status ≡ true) }
+    ensures failed { IsErrOf result Status.ReadFault
+        → Rose (S.faults script.old) (S.faults script.new) }
+    ensures failed_comes { S.faults script.old < S.faults script.new
+        → result ≡ Err Status.ReadFault }
     ensures bad_script { IsErrOf result Status.BadScript
-        → IfSome (S.left script.old) (λ bytes. script_of bytes ≡ None) }
+        → (S.faults script.new ≡ S.faults script.old)
+        × IfSome (S.left script.old) (λ bytes. script_of bytes ≡ None) }
 {
-    let bytes = match read_whole(alloc, script, LONGEST_SCRIPT) {
-        Ok(bytes) => bytes,
-        Err(ReadFault::Failed) => return Err(Status::ReadFault),
-        Err(ReadFault::TooLong) => return Err(Status::BadScript),
-        Err(ReadFault::NoMemory) => return Err(Status::NoMemory),
-    };
-    match read_script(alloc, &bytes) {
-        Ok(Some(commands)) => Ok(commands),
-        Ok(None) => Err(Status::BadScript),
-        Err(_) => Err(Status::NoMemory),
-    }
+    let bytes = read_whole(alloc, script, MAX_SCRIPT_LENGTH)?;
+    read_script(alloc, &bytes)?.ok_or(Status::BadScript)
 }
 
-/// The output of some commands in a loaded file.
-fn edited(alloc: Global, loaded: Loaded, commands: Vec<Command>) -> Result<String, AllocError>
+/// Returns the output of some commands after loading.
+fn edited(alloc: Global, loaded: Loaded, commands: Vec<Command>) -> Result<Vec<u8>, AllocError>
     requires { All InRange commands.items }
-    ensures { IfOk result (λ output. (file : _) → Loads file loaded
-        → string_bytes output ≡ printed commands.items file) }
+    ensures { IfOk result (λ output. Prints commands.items loaded output.items) }
 {
-    let mut core = Core::new(alloc, loaded, MOST_REVISIONS)?;
-    let mut output = String::new(alloc);
+    let mut core = Core::new(alloc, loaded, MAX_REVISIONS)?;
     for command in commands {
-        let step = core.step(alloc, 0, Request::Cmd(command))?;
-        push_reply(alloc, &mut output, &step.reply)?;
+        core.step(alloc, 0, Request::Cmd(command))?;
     }
-    let text = core.copy_text(alloc)?;
-    push_text(alloc, &mut output, &text)?;
-    Ok(output)
+    output(alloc, core.journal(), core.doc())
 }

@@ -1,55 +1,38 @@
-ghost use Rattle.std.specs.Prelude.{◌≡◌, ◌≤◌, ◌⊎◌, [], ◌∷◌, true, false, IfOk, IfErr, IfSome, IsErrOf, Contains, vec_len};
-ghost use Rattle.kte_causes.specs.Faults.{Rose};
-ghost use Rattle.kte_causes.specs.DiskFaults.{AllStay, NoneFell};
-ghost use Rattle.kte_causes.specs.declared.causes.DiskCall.TheVariants.{SavedLen, SavedAt};
-ghost use Rattle.kte_text.specs.Loading.{is_loadable, Loads};
-ghost use Rattle.kte_run.specs.Run.{DiskRose};
-ghost use Rattle.kte_run.specs.Statuses.{status_of};
+ghost use Rattle.std.specs.Prelude.{◌≡◌, ◌≢◌, ◌<◌, ◌⊎◌, ℕ, true, Err, IfOk, IfErr, IfSome, IsSomeAnd, IsErrOf, OnOk};
+ghost use Rattle.kte_causes.specs.DiskFaults.{AllStay};
+ghost use Rattle.kte_text.specs.Files.{Loads, Refuses};
+ghost use Rattle.kte_text.specs.declared.loading.LoadFault.TheVariants.{NoMemory};
+ghost use Rattle.kte_run.specs.Run.{DiskRose, IsLoadable};
+ghost use Rattle.kte_run.specs.Statuses.{file_status, is_of_file};
 
 use crate::status::Status;
-use kte_causes::{Disk, DiskFail};
-use kte_text::{LONGEST_FILE, LoadFault, Loaded, load};
-use std::alloc::{AllocError, Global};
+use kte_causes::Disk;
+use kte_text::{LoadFault, Loaded, MAX_FILE_LENGTH, load};
+use std::alloc::Global;
 
-/// Loads the saved file.
+/// Loads the saved file. One that is too long is not read.
 pub(crate) fn load_saved<D: Disk>(alloc: Global, disk: &mut D) -> Result<Loaded, Status>
-    ensures loaded { IfOk result (λ loaded. IfSome (D.saved disk.old) (λ bytes.
-        (is_loadable bytes ≡ true) × Loads bytes loaded)) }
-    ensures only { IfErr result (Contains (Status.DiskFault ∷ Status.NotYet ∷ Status.NoMemory ∷ [])) }
-    ensures failed { IsErrOf result Status.DiskFault → DiskRose (D.faults disk.old) (D.faults disk.new) }
-    ensures not_yet { IsErrOf result Status.NotYet → IfSome (D.saved disk.old) (λ bytes. is_loadable bytes ≡ false) }
+    ensures loaded { IfOk result (λ loaded. IfSome (D.saved disk.old) (λ file.
+        Loads file loaded × IsLoadable file)) }
+    ensures calm { OnOk result (AllStay (D.faults disk.old) (D.faults disk.new)) }
+    ensures only { IfErr result (λ status. is_of_file status ≡ true) }
+    ensures failed { IsErrOf result Status.DiskFault
+        → DiskRose (D.faults disk.old) (D.faults disk.new) }
+    ensures failed_comes { (call : _) → D.faults disk.old call < D.faults disk.new call
+        → result ≡ Err Status.DiskFault }
+    ensures refused { (fault : _) → fault ≢ NoMemory → IsErrOf result (file_status fault)
+        → AllStay (D.faults disk.old) (D.faults disk.new)
+        × IfSome (D.saved disk.old) (λ file. Refuses file fault) }
+    ensures refused_comes { (fault : _) → IsSomeAnd (D.saved disk.old) (λ file. Refuses file fault)
+        → IfErr result (λ status. (status ≡ file_status fault) ⊎ (status ≡ Status.DiskFault)
+        ⊎ (status ≡ Status.NoMemory)) }
     ensures saved { D.saved disk.new ≡ D.saved disk.old }
 {
-    let length = disk.saved_len().map_err(failed)?;
-    if length > LONGEST_FILE {
-        return Err(Status::NotYet);
+    let length = disk.saved_len()?;
+    if length > MAX_FILE_LENGTH {
+        return Err(Status::from(LoadFault::LongFile));
     }
-    let mut bytes = zeros(alloc, length)?;
-    disk.saved_at(0, &mut bytes).map_err(failed)?;
-    match load(alloc, &bytes) {
-        Ok(loaded) => Ok(loaded),
-        Err(LoadFault::NotYet) => Err(Status::NotYet),
-        Err(LoadFault::NoMemory) => Err(Status::NoMemory),
-    }
-}
-
-/// The status of a call that the disk answered so.
-fn failed(fail: DiskFail) -> Status
-    ensures { result ≡ status_of fail }
-{
-    match fail {
-        DiskFail::Failed => Status::DiskFault,
-        DiskFail::NoMemory => Status::NoMemory,
-    }
-}
-
-/// So many bytes to read into.
-fn zeros(alloc: Global, length: u64) -> Result<Vec<u8>, Status>
-    ensures length { IfOk result (λ bytes. vec_len bytes ≡ length) }
-    ensures only { IfErr result (λ status. status ≡ Status.NoMemory) }
-{
-    match vec![in alloc; 0; length as usize] {
-        Ok(bytes) => Ok(bytes),
-        Err(_) => Err(Status::NoMemory),
-    }
+    let mut bytes = vec![in alloc; 0; length as usize]?;
+    disk.saved_at(0, &mut bytes)?;
+    Ok(load(alloc, &bytes)?)
 }

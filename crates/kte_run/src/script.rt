@@ -8,18 +8,18 @@ ghost use Rattle.std.specs.Str.Parse.{digits_value as value_of};
 ghost use Rattle.kte_text.specs.declared.primitive.Primitive.TheVariants.{Insert};
 ghost use Rattle.kte_text.specs.Units.{IsPrintable};
 ghost use Rattle.kte_core.specs.declared.request.Command.TheVariants.{Put};
-ghost use Rattle.kte_doc.specs.Standings.{IsInReach};
+ghost use Rattle.kte_place.specs.Place.{IsInReach};
 ghost use Rattle.kte_core.specs.Requests.{InRange};
-ghost use Rattle.kte_run.specs.declared.TheConstants.{GREATEST_NUMBER};
+ghost use Rattle.kte_place.specs.declared.place.TheConstants.{MAX_REACH};
 ghost use Rattle.kte_run.specs.Script.{Field, field_of, number_up_to, number_of, id_of, is_string_byte, string_of, PlaceField, place_field_of, place_of, expand_of, empty_of, insert_of, wrap_of, unwrap_of, remove_of, range_of, setrange_of, named, command_of, commands_of, script_of};
 
-use crate::{GREATEST_ID, GREATEST_NUMBER, LONGEST_SCRIPT, MOST_DIGITS};
+use crate::{MAX_DIGITS, MAX_ID, MAX_SCRIPT_LENGTH};
 use kte_core::Command;
-use kte_place::{Empty, Expand, Place, Span};
+use kte_place::{Empty, Expand, MAX_REACH, Place, Span};
 use kte_text::{Line, Primitive};
 use std::alloc::{AllocError, Global};
 
-/// The field at the front, and what stands behind the space that ends it.
+/// Returns the first field and the bytes after the space that ends it, if there is one.
 #[tactic(auto, unfolding(crate::specs::Script::field_of))]
 fn field(bytes: &[u8]) -> Option<(&[u8], &[u8])>
     ensures { option_map (λ found. record { word = found.0.now; rest = found.1.now }) result
@@ -31,6 +31,7 @@ fn field(bytes: &[u8]) -> Option<(&[u8], &[u8])>
     }
 }
 
+/// Returns the index of the first space.
 fn first_space(bytes: &[u8]) -> Option<usize>
     ensures first { result ≡ position (λ byte. byte == 32) bytes.now }
     ensures within { IfSome result (λ at. at < length bytes.now) }
@@ -38,13 +39,13 @@ fn first_space(bytes: &[u8]) -> Option<usize>
     bytes.iter().position(|byte| *byte == b' ')
 }
 
-/// The number that a field spells, where it is at most `most`.
+/// Returns the number that a field spells, if it is at most `most`.
 #[tactic(auto, unfolding(crate::specs::Script::number_up_to))]
 fn number_at_most(word: &[u8], most: u32) -> Option<u32>
     ensures value { result ≡ number_up_to most word.now }
     ensures within { IfSome result (λ number. number ≤ most) }
 {
-    if word.is_empty() || word.len() > MOST_DIGITS || !is_digits(word) {
+    if word.is_empty() || word.len() > MAX_DIGITS || !is_digits(word) {
         return None;
     }
     let value = digits_value(word);
@@ -55,31 +56,32 @@ fn number_at_most(word: &[u8], most: u32) -> Option<u32>
     }
 }
 
-/// A line or a column.
+/// Returns the line or the column that a field spells.
 fn number(word: &[u8]) -> Option<u32>
     ensures value { result ≡ number_of word.now }
-    ensures within { IfSome result (λ number. number ≤ GREATEST_NUMBER) }
+    ensures within { IfSome result (λ number. number ≤ MAX_REACH) }
 {
-    number_at_most(word, GREATEST_NUMBER)
+    number_at_most(word, MAX_REACH as u32)
 }
 
-/// The number of a range.
+/// Returns the number of a range that a field spells.
 fn id(word: &[u8]) -> Option<u64>
     ensures { result ≡ id_of word.now }
 {
-    match number_at_most(word, GREATEST_ID) {
+    match number_at_most(word, MAX_ID) {
         Some(number) => Some(u64::from(number)),
         None => None,
     }
 }
 
+/// Returns whether all bytes are decimal digits.
 fn is_digits(word: &[u8]) -> bool
     ensures { result ≡ list_all is_ascii_digit word.now }
 {
     word.iter().all(|byte| byte.is_ascii_digit())
 }
 
-/// What at most ten digits are worth.
+/// Returns the value of at most ten digits.
 fn digits_value(word: &[u8]) -> u64
     requires digits { list_all is_ascii_digit word.now ≡ true }
     requires few { length word.now ≤ 10 }
@@ -92,7 +94,7 @@ fn digits_value(word: &[u8]) -> u64
     value
 }
 
-/// The text of a string.
+/// Returns the text of a string.
 #[tactic(auto, unfolding(crate::specs::Script::string_of))]
 fn string(word: &[u8]) -> Option<&[u8]>
     ensures value { option_copied result ≡ string_of word.now }
@@ -106,13 +108,14 @@ fn string(word: &[u8]) -> Option<&[u8]>
     if is_plain(text) { Some(text) } else { None }
 }
 
+/// Returns whether a text may stand in a string.
 fn is_plain(text: &[u8]) -> bool
     ensures { result ≡ list_all is_string_byte text.now }
 {
     text.iter().all(|byte| 32 <= *byte && *byte <= 126 && *byte != b'"' && *byte != b'\\')
 }
 
-/// The line of a text of printable ASCII.
+/// Returns the line of a text of printable ASCII.
 fn plain_line(alloc: Global, text: &[u8]) -> Result<Line, AllocError>
     requires { All IsPrintable text.now }
     ensures { IfOk result (λ line. line ≡ text.now) }
@@ -121,7 +124,7 @@ fn plain_line(alloc: Global, text: &[u8]) -> Result<Line, AllocError>
     Line::of_units(alloc, &units)
 }
 
-/// The place at the front, and what stands behind the space that ends it.
+/// Returns the first place and the bytes after the space that ends it.
 #[tactic(auto, unfolding(crate::specs::Script::place_field_of))]
 fn place_field(bytes: &[u8]) -> Option<(Place, &[u8])>
     ensures value { option_map (λ found. record { place = found.0; rest = found.1.now }) result
@@ -135,7 +138,7 @@ fn place_field(bytes: &[u8]) -> Option<(Place, &[u8])>
     Some((Place { line, column }, rest))
 }
 
-/// The place that the bytes spell.
+/// Returns the place that the bytes spell.
 #[tactic(auto, unfolding(crate::specs::Script::place_of))]
 fn place(bytes: &[u8]) -> Option<Place>
     ensures value { result ≡ place_of bytes.now }
@@ -147,7 +150,7 @@ fn place(bytes: &[u8]) -> Option<Place>
     Some(Place { line, column })
 }
 
-/// How a range expands.
+/// Returns how a range expands.
 #[tactic(auto, unfolding(crate::specs::Script::expand_of))]
 fn expand(word: &[u8]) -> Option<Expand>
     ensures { result ≡ expand_of word.now }
@@ -166,7 +169,7 @@ fn expand(word: &[u8]) -> Option<Expand>
     Some(Expand { left, right })
 }
 
-/// What becomes of an empty range.
+/// Returns what becomes of an empty range.
 #[tactic(auto, unfolding(crate::specs::Script::empty_of))]
 fn empty(word: &[u8]) -> Option<Empty>
     ensures { result ≡ empty_of word.now }
@@ -180,7 +183,7 @@ fn empty(word: &[u8]) -> Option<Empty>
     }
 }
 
-/// `insert L C STRING`, behind its first word.
+/// Returns the command `insert L C STRING`, given the bytes after its first word.
 #[tactic(auto, unfolding(crate::specs::Script::insert_of))]
 fn insert(alloc: Global, bytes: &[u8]) -> Result<Option<Command>, AllocError>
     ensures value { IfOk result (λ command. command ≡ insert_of bytes.now) }
@@ -198,9 +201,11 @@ fn insert(alloc: Global, bytes: &[u8]) -> Result<Option<Command>, AllocError>
     }))
 }
 
+/// Returns the place and the text of an insertion.
 #[tactic(auto, unfolding(crate::specs::Script::insert_of))]
 fn insert_fields(bytes: &[u8]) -> Option<(Place, &[u8])>
-    ensures value { option_map (λ found. Put (Insert found.0.line found.0.column found.1.now)) result
+    ensures value { option_map (λ found.
+        Put (Insert found.0.line found.0.column found.1.now)) result
         ≡ insert_of bytes.now }
     ensures plain { IfSome result (λ found. All IsPrintable found.1.now) }
 {
@@ -208,7 +213,7 @@ fn insert_fields(bytes: &[u8]) -> Option<(Place, &[u8])>
     Some((place, string(rest)?))
 }
 
-/// `wrap L C`, behind its first word, as those that follow.
+/// Returns the command `wrap L C`, given the bytes after its first word, as do those below.
 #[tactic(auto, unfolding(crate::specs::Script::wrap_of))]
 fn wrap(bytes: &[u8]) -> Option<Command>
     ensures value { result ≡ wrap_of bytes.now }
@@ -220,7 +225,7 @@ fn wrap(bytes: &[u8]) -> Option<Command>
     })
 }
 
-/// `unwrap L`.
+/// Returns the command `unwrap L`.
 #[tactic(auto, unfolding(crate::specs::Script::unwrap_of))]
 fn unwrap(bytes: &[u8]) -> Option<Command>
     ensures value { result ≡ unwrap_of bytes.now }
@@ -232,7 +237,7 @@ fn unwrap(bytes: &[u8]) -> Option<Command>
     })
 }
 
-/// `remove L C L C`, both lines equal.
+/// Returns the command `remove L C L C`, both lines equal.
 #[tactic(auto, unfolding(crate::specs::Script::remove_of))]
 fn remove(bytes: &[u8]) -> Option<Command>
     ensures value { result ≡ remove_of bytes.now }
@@ -253,7 +258,7 @@ fn remove(bytes: &[u8]) -> Option<Command>
     })
 }
 
-/// `range L C L C EXPAND EMPTY`.
+/// Returns the command `range L C L C EXPAND EMPTY`.
 #[tactic(auto, unfolding(crate::specs::Script::range_of))]
 fn range(bytes: &[u8]) -> Option<Command>
     ensures value { result ≡ range_of bytes.now }
@@ -269,7 +274,7 @@ fn range(bytes: &[u8]) -> Option<Command>
     })
 }
 
-/// `setrange ID L C L C`.
+/// Returns the command `setrange ID L C L C`.
 #[tactic(auto, unfolding(crate::specs::Script::setrange_of))]
 fn setrange(bytes: &[u8]) -> Option<Command>
     ensures value { result ≡ setrange_of bytes.now }
@@ -285,7 +290,7 @@ fn setrange(bytes: &[u8]) -> Option<Command>
     })
 }
 
-/// The command of a word other than `insert`, and of its fields.
+/// Returns the command of a first word other than `insert` and of the bytes after it.
 #[tactic(auto, unfolding(crate::specs::Script::named))]
 fn named(word: &[u8], rest: &[u8]) -> Option<Command>
     requires { bytes_eq word.now (codes "insert") ≡ false }
@@ -317,7 +322,7 @@ fn named(word: &[u8], rest: &[u8]) -> Option<Command>
     }
 }
 
-/// The command of a line.
+/// Returns the command that a line spells.
 #[tactic(auto, unfolding(crate::specs::Script::command_of, crate::specs::Script::named))]
 fn command(alloc: Global, line: &[u8]) -> Result<Option<Command>, AllocError>
     ensures value { IfOk result (λ command. command ≡ command_of line.now) }
@@ -332,11 +337,12 @@ fn command(alloc: Global, line: &[u8]) -> Result<Option<Command>, AllocError>
     Ok(named(word, rest))
 }
 
-/// The commands of some lines, each of which spells one.
+/// Returns the commands of some lines, if each spells one.
 fn commands(alloc: Global, lines: &[u8]) -> Result<Option<Vec<Command>>, AllocError>
     ensures value { IfOk result (λ found. option_map (λ commands. commands.items) found
         ≡ commands_of (slice_split (λ byte. byte == 10) lines.now)) }
-    ensures in_range { IfOk result (λ found. IfSome found (λ commands. All InRange commands.items)) }
+    ensures in_range { IfOk result (λ found. IfSome found
+        (λ commands. All InRange commands.items)) }
 {
     let mut commands = Vec::new(alloc);
     for line in lines.split(|byte| *byte == b'\n') {
@@ -348,13 +354,14 @@ fn commands(alloc: Global, lines: &[u8]) -> Result<Option<Vec<Command>>, AllocEr
     Ok(Some(commands))
 }
 
-/// The commands of a script, where each of its lines spells one, and it is not too long.
+/// Returns the commands of a script, if it is not too long and each of its lines spells one.
 pub(crate) fn read_script(alloc: Global, bytes: &[u8]) -> Result<Option<Vec<Command>>, AllocError>
     ensures value { IfOk result (λ found. option_map (λ commands. commands.items) found
         ≡ script_of bytes.now) }
-    ensures in_range { IfOk result (λ found. IfSome found (λ commands. All InRange commands.items)) }
+    ensures in_range { IfOk result (λ found. IfSome found
+        (λ commands. All InRange commands.items)) }
 {
-    if bytes.len() as u64 > LONGEST_SCRIPT {
+    if bytes.len() as u64 > MAX_SCRIPT_LENGTH {
         return Ok(None);
     }
     if bytes.is_empty() {

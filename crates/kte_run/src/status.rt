@@ -1,15 +1,20 @@
 ghost use Rattle.std.specs.Prelude.{◌≡◌, IfOk, string_bytes};
+ghost use Rattle.kte_run.specs.Statuses.{script_status, disk_status, file_status, sink_status};
+ghost use Rattle.kte_run.specs.declared.status.Status.TheVariants as status;
 
-use std::alloc::{AllocError, Global};
+use kte_causes::{DiskFail, ReadFault, SinkFail};
+use kte_text::LoadFault;
+use std::alloc::{AllocError, AllocFailed, Global};
 
 /// How a run ended.
 #[derive(Clone, Copy, Debug, PartialEq, Eq)]
 pub enum Status {
-    /// All was done.
+    /// Everything was done.
     Ok,
-    /// Memory ran out.
+    /// Out of memory.
     NoMemory,
-    /// The words are no command: the first that does not fit, counted from 0, or how many there are where one is missing.
+    /// The words are no command of the program. `at` is the index, from 0, of the first word that
+    /// does not fit, or the number of words if one is missing.
     BadWords { at: u32 },
     /// Reading the script failed.
     ReadFault,
@@ -17,16 +22,18 @@ pub enum Status {
     BadScript,
     /// The disk failed.
     DiskFault,
+    /// The saved file is not UTF-8. `at` is the length of its longest prefix that is, in bytes.
+    NotUtf8 { at: u64 },
+    /// The saved file is too long, or its text has `size` units and line ends, which is too large.
+    TooLarge { size: Option<u64> },
     /// Writing the output failed.
     WriteFault,
-    /// The saved file is not of the form that is read.
-    NotYet,
 }
 
 impl Status {
     ghost use Rattle.kte_run.specs.Statuses.{code_of, error_line};
 
-    /// The code that the program ends with.
+    /// Returns the code that the program ends with.
     pub fn code(&self) -> u8
         ensures { result ≡ code_of self.now }
     {
@@ -37,14 +44,16 @@ impl Status {
             Status::ReadFault => 3,
             Status::BadScript => 4,
             Status::DiskFault => 5,
+            Status::NotUtf8 { .. } => 6,
+            Status::TooLarge { .. } => 7,
             Status::WriteFault => 10,
-            Status::NotYet => 15,
         }
     }
 
-    /// The line for standard error, without its end; empty where all was done.
+    /// Returns the line that the program writes on standard error, without its end; it is empty for
+    /// `Ok`.
     pub fn line(&self, alloc: Global) -> Result<String, AllocError>
-        ensures { IfOk result (λ line. string_bytes line ≡ error_line self.now) }
+        ensures { IfOk result (λ text. string_bytes text ≡ error_line self.now) }
     {
         match self {
             Status::Ok => Ok(String::new(alloc)),
@@ -53,8 +62,75 @@ impl Status {
             Status::ReadFault => String::from_str(alloc, "kted: reading the script failed"),
             Status::BadScript => String::from_str(alloc, "kted: the script does not fit"),
             Status::DiskFault => String::from_str(alloc, "kted: the disk failed"),
+            Status::NotUtf8 { at } => format!(in alloc; "kted: file is not UTF-8 at byte {at}"),
+            Status::TooLarge { size: None } => String::from_str(alloc, "kted: file too long"),
+            Status::TooLarge { size: Some(size) } => {
+                format!(in alloc; "kted: text too large: {size}")
+            }
             Status::WriteFault => String::from_str(alloc, "kted: writing failed"),
-            Status::NotYet => String::from_str(alloc, "kted: this form of file is not read yet"),
+        }
+    }
+}
+
+impl From<AllocError> for Status {
+    ghost from_gives = { λ _ given. given ≡ status.NoMemory };
+
+    fn from(_error: AllocError) -> Status {
+        Status::NoMemory
+    }
+}
+
+impl<T: Drop> From<AllocFailed<T>> for Status {
+    ghost from_gives = { λ _ given. given ≡ status.NoMemory };
+
+    fn from(_error: AllocFailed<T>) -> Status {
+        Status::NoMemory
+    }
+}
+
+impl From<ReadFault> for Status {
+    ghost from_gives = { λ fault given. given ≡ script_status fault };
+
+    fn from(fault: ReadFault) -> Status {
+        match fault {
+            ReadFault::Failed => Status::ReadFault,
+            ReadFault::TooLong => Status::BadScript,
+            ReadFault::NoMemory => Status::NoMemory,
+        }
+    }
+}
+
+impl From<DiskFail> for Status {
+    ghost from_gives = { λ fail given. given ≡ disk_status fail };
+
+    fn from(fail: DiskFail) -> Status {
+        match fail {
+            DiskFail::Failed => Status::DiskFault,
+            DiskFail::NoMemory => Status::NoMemory,
+        }
+    }
+}
+
+impl From<LoadFault> for Status {
+    ghost from_gives = { λ fault given. given ≡ file_status fault };
+
+    fn from(fault: LoadFault) -> Status {
+        match fault {
+            LoadFault::LongFile => Status::TooLarge { size: None },
+            LoadFault::NotUtf8 { at } => Status::NotUtf8 { at },
+            LoadFault::TooLarge { size } => Status::TooLarge { size: Some(size) },
+            LoadFault::NoMemory => Status::NoMemory,
+        }
+    }
+}
+
+impl From<SinkFail> for Status {
+    ghost from_gives = { λ fail given. given ≡ sink_status fail };
+
+    fn from(fail: SinkFail) -> Status {
+        match fail {
+            SinkFail::Failed => Status::WriteFault,
+            SinkFail::NoMemory => Status::NoMemory,
         }
     }
 }

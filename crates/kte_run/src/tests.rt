@@ -1,10 +1,12 @@
-ghost use Rattle.std.specs.Prelude.{Some};
+ghost use Rattle.std.specs.Prelude.{Some, None};
+ghost use Rattle.kte_causes.specs.Faults.{last_count};
 
 use crate::{Status, Word, run};
 use kte_causes::{
-    CalmDisk, CalmSink, CalmSource, DiskCall, DiskPlan, MemDisk, MemSink, MemSource, Sink,
-    SinkFail, read_whole,
+    CalmDisk, CalmSink, CalmSource, Disk, DiskCall, DiskFail, DiskPlan, MemDisk, MemSink,
+    MemSource, Sink, SinkFail, read_whole,
 };
+use kte_text::MAX_FILE_LENGTH;
 use std::alloc::{AllocError, Global};
 use std::test::Fail;
 
@@ -54,7 +56,7 @@ fn edit(rt: &HostRuntime, script: &[u8], file: &[u8]) -> Result<(u8, Vec<u8>), F
 
 #[test]
 fn one_insertion_from_bytes_to_bytes(rt: HostRuntime) -> Result<(), Fail> {
-    let table: [(&[u8], &[u8], u8, &[u8]); 5] = [
+    let table: [(&[u8], &[u8], u8, &[u8]); 6] = [
         (FILE, SCRIPT, 0, OUTPUT),
         (
             FILE,
@@ -64,7 +66,8 @@ fn one_insertion_from_bytes_to_bytes(rt: HostRuntime) -> Result<(), Fail> {
         ),
         (b"", b"insert 0 0 \"\"", 0, b"edited 0 0 0\ntext\n|\n"),
         (FILE, b"insert 0 5", 4, b""),
-        (b"\xC3", SCRIPT, 15, b""),
+        (b"\xC3", SCRIPT, 6, b""),
+        (b"\xC3", b"insert 0 5", 4, b""),
     ];
     for (file, script, code, output) in table {
         let (ended, written) = edit(&rt, script, file)?;
@@ -181,6 +184,32 @@ range 2 invalid\ntext\n|abcde\n",
     Ok(())
 }
 
+#[test]
+fn a_refused_command_in_mid_script_changes_nothing(rt: HostRuntime) -> Result<(), Fail> {
+    let table: [(&[u8], &[u8]); 6] = [
+        (b"unwrap 0", b"refused firstline"),
+        (b"setrange 7 0 0 0 1", b"refused norange 7"),
+        (b"droprange 7", b"refused norange 7"),
+        (b"range 0 0 5 0 none allow", b"range 2 invalid"),
+        (b"setrange 1 0 0 5 0", b"range 1 invalid"),
+        (b"insert 0 6 \"!\"", b"refused nocolumn 0 6"),
+    ];
+    let alloc = rt.alloc();
+    for (line, reply) in table {
+        let mut script = b"range 0 0 0 1 none allow\n".to_vec(alloc)?;
+        script.extend_from_slice(line)?;
+        script.extend_from_slice(b"\ninsert 0 5 \"!\"")?;
+        let mut output = b"range 1 0 0 0 1\n".to_vec(alloc)?;
+        output.extend_from_slice(reply)?;
+        output.push(b'\n')?;
+        output.extend_from_slice(OUTPUT)?;
+        let (ended, written) = edit(&rt, &script, FILE)?;
+        assert_eq!(rt; ended, 0);
+        assert_eq!(rt; written.as_slice(), output.as_slice());
+    }
+    Ok(())
+}
+
 /// A script that inserts so many letters into line 0. It has 13 bytes more.
 fn script_of_letters(alloc: Global, letters: usize) -> Result<Vec<u8>, Fail> {
     let mut script = b"insert 0 0 \"".to_vec(alloc)?;
@@ -189,24 +218,42 @@ fn script_of_letters(alloc: Global, letters: usize) -> Result<Vec<u8>, Fail> {
     Ok(script)
 }
 
+/// A disk whose saved file is one byte too long, and cannot be read.
+#[derive(Drop)]
+struct LongDisk {}
+
+impl Disk for LongDisk {
+    ghost saved = { λ _. None };
+
+    ghost faults = { λ _ _. last_count };
+
+    fn saved_len(&mut self) -> Result<u64, DiskFail> {
+        Ok(MAX_FILE_LENGTH + 1)
+    }
+
+    fn saved_at(&mut self, _from: u64, _buf: &mut [u8]) -> Result<(), DiskFail> {
+        Err(DiskFail::Failed)
+    }
+}
+
 #[test]
-fn the_longest_script_and_the_longest_file(rt: HostRuntime) -> Result<(), Fail> {
+fn the_longest_script_and_a_file_too_long(rt: HostRuntime) -> Result<(), Fail> {
     let alloc = rt.alloc();
     let script = script_of_letters(alloc, 65_523)?;
     assert_eq!(rt; script.len(), 65_536);
-    let (ended, _) = edit(&rt, &script, FILE)?;
-    assert_eq!(rt; ended, 0);
-    let (ended, written) = edit(&rt, &script_of_letters(alloc, 65_524)?, FILE)?;
-    assert_eq!(rt; ended, 4);
+    let (code, _) = edit(&rt, &script, FILE)?;
+    assert_eq!(rt; code, 0);
+    let (code, written) = edit(&rt, &script_of_letters(alloc, 65_524)?, FILE)?;
+    assert_eq!(rt; code, 4);
     assert!(rt; written.is_empty());
 
-    let mut file = vec![in alloc; b'a'; 1_048_576]?;
-    let (ended, _) = edit(&rt, SCRIPT, &file)?;
-    assert_eq!(rt; ended, 0);
-    file.push(b'a')?;
-    let (ended, written) = edit(&rt, SCRIPT, &file)?;
-    assert_eq!(rt; ended, 15);
-    assert!(rt; written.is_empty());
+    let words = words(alloc, &["edit", "file"])?;
+    let mut source = CalmSource::new(SCRIPT.to_vec(alloc)?);
+    let mut sink = CalmSink::new(alloc);
+    let mut disk = LongDisk {};
+    let status = run(&rt, alloc, &words, &mut source, &mut disk, &mut sink);
+    assert_eq!(rt; ended(status)?, Status::TooLarge { size: None });
+    assert!(rt; sink.bytes().is_empty());
     Ok(())
 }
 
@@ -310,9 +357,17 @@ fn each_status_has_its_code_and_its_line(rt: HostRuntime) -> Result<(), Fail> {
         (Status::DiskFault, 5, "kted: the disk failed"),
         (Status::WriteFault, 10, "kted: writing failed"),
         (
-            Status::NotYet,
-            15,
-            "kted: this form of file is not read yet",
+            Status::NotUtf8 { at: 7 },
+            6,
+            "kted: file is not UTF-8 at byte 7",
+        ),
+        (Status::TooLarge { size: None }, 7, "kted: file too long"),
+        (
+            Status::TooLarge {
+                size: Some(67_108_865),
+            },
+            7,
+            "kted: text too large: 67108865",
         ),
     ];
     for (status, code, line) in table {

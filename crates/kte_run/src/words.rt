@@ -20,29 +20,31 @@ impl Model for Word {
     ghost view = { λ word. string_bytes word.text };
 }
 
-/// The words are no command of the program.
+/// Why words are no command of the program.
 #[derive(Clone, Copy, Debug, PartialEq, Eq, Drop, Error)]
 #[error("word {at} does not fit")]
 pub struct BadWords {
-    /// The first word that does not fit, counted from 0, or how many words there are where one is missing.
+    /// The index, from 0, of the first word that does not fit, or the number of words if one is
+    /// missing.
     pub at: u32,
 }
 
 impl Word {
-    /// The word of this text.
+    /// Returns the word of a text.
     pub fn new(text: String) -> Word
         ensures { result ≡ string_bytes text }
     {
         Word { text }
     }
 
-    /// The text of the word.
+    /// Returns the text of the word.
     pub fn as_str(&self) -> &str
         ensures { result.now ≡ self.now }
     {
         self.text.as_str()
     }
 
+    /// Returns the bytes of the word.
     fn bytes(&self) -> &[u8]
         ensures { result.now ≡ self.now }
     {
@@ -50,7 +52,7 @@ impl Word {
     }
 }
 
-/// Whether the words are `edit FILE`.
+/// Fails unless the words are `edit FILE`.
 pub(crate) fn check(words: &[Word]) -> Result<(), BadWords>
     ensures { option_map (λ fault. fault.at) (result_err result) ≡ words_fault words.now }
 {
@@ -60,6 +62,7 @@ pub(crate) fn check(words: &[Word]) -> Result<(), BadWords>
     }
 }
 
+/// Fails unless the words are `FILE`, the second word of the program.
 fn check_file(words: &[Word]) -> Result<(), BadWords>
     ensures { option_map (λ fault. fault.at) (result_err result) ≡ file_fault words.now }
 {

@@ -1,5 +1,11 @@
 pub mod Units
+pub mod Utf8
 pub mod Texts
 pub mod Primitives
-pub mod Loading
-pub mod Laws
+pub mod Flat
+pub mod Files
+pub mod Reading
+pub mod Saving
+pub mod Digests
+pub mod Words
+pub mod Inside

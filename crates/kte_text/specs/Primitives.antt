@@ -5,7 +5,7 @@ use Rattle.std.specs.Prelude.{◌≡◌, ℕ, ◌+◌, ◌-◌, ◌^◌, ◌<◌
 use Rattle.std.specs.Option.{option_map, option_or}
 use Rattle.kte_text.specs.Units.{IsLine, IsBoundary, splits_pair}
 use Rattle.kte_text.specs.Texts.{line_at, size_of}
-use Rattle.kte_text.specs.declared.TheConstants.{GREATEST_SIZE}
+use Rattle.kte_text.specs.declared.TheConstants.{MAX_SIZE}
 use Rattle.kte_text.specs.declared.primitive.Primitive.{Primitive}
 use Rattle.kte_text.specs.declared.primitive.Primitive.TheVariants.{Wrap, Unwrap, Insert, Remove}
 use Rattle.kte_text.specs.declared.primitive.Misfit.{Misfit}
@@ -93,34 +93,35 @@ unjoinable (Remove line column units) = None
 
 -- a text of this size is too large
 abbrev pub oversize : ℕ → Option Misfit
-oversize size = if nat_lt GREATEST_SIZE size then Some (TooLarge size) else None
+oversize size = if nat_lt MAX_SIZE size then Some (TooLarge size) else None
 
--- Why a primitive does not fit a text, the first cause in this order: its line may not be cut at its
--- columns; it is the first line that would be joined; the text would be too large. `None` where it
--- fits
+-- Why a primitive does not fit a text, the first cause in this order: its line may not be cut at
+-- its columns; it is the first line that would be joined; the text would be too large. `None` where
+-- it fits
 abbrev pub misfit : Primitive → List (List ℕ) → Option Misfit
 misfit primitive text =
     option_or (misplaced (line_of primitive) (columns_of primitive) text)
     (option_or (unjoinable primitive) (oversize (size_of (after primitive text))))
 
--- the primitives fit one after another, the first of them this text, and none inserts or removes nothing
+-- the primitives fit one after another, the first of them this text, and none inserts or removes
+-- nothing
 abbrev pub FitInTurn : List Primitive → List (List ℕ) → Type 0
 FitInTurn [] text = Unit {0}
 FitInTurn (primitive ∷ primitives) text =
     (misfit primitive text ≡ None) × (is_empty primitive ≡ false)
     × FitInTurn primitives (after primitive text)
 
--- What fits a text, without the causes: the line is there, it may be cut at the columns, a line that
--- is joined has one before it, and there is room for what is added. A law says that this is where
--- `misfit` is `None`
+-- What fits a text, without the causes: the line is there, it may be cut at the columns, a line
+-- that is joined has one before it, and there is room for what is added. A law says that this is
+-- where `misfit` is `None`
 abbrev pub FitsText : Primitive → List (List ℕ) → Type 0
 FitsText (Wrap line column) text =
     (line < length text) × IsBoundary (line_at text line) column
-    × (size_of text + 1 ≤ GREATEST_SIZE)
+    × (size_of text + 1 ≤ MAX_SIZE)
 FitsText (Unwrap line) text = (0 < line) × (line < length text)
 FitsText (Insert line column units) text =
     (line < length text) × IsBoundary (line_at text line) column
-    × (size_of text + length units ≤ GREATEST_SIZE)
+    × (size_of text + length units ≤ MAX_SIZE)
 FitsText (Remove line column units) text =
     (line < length text) × IsBoundary (line_at text line) column
     × IsBoundary (line_at text line) (column + units)

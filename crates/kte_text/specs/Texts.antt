@@ -1,7 +1,7 @@
 -- A text as the list of its lines.
 use Rattle.std.specs.Prelude.{ℕ, ◌+◌, ◌-◌, ◌<◌, ◌≤◌, List, [], length, sum_by, slice_index_or, All}
 use Rattle.kte_text.specs.Units.{IsLine}
-use Rattle.kte_text.specs.declared.TheConstants.{GREATEST_SIZE}
+use Rattle.kte_text.specs.declared.TheConstants.{MAX_SIZE}
 
 -- the units of a line, counted from 0; a line that is not there has none
 abbrev pub line_at : List (List ℕ) → ℕ → List ℕ
@@ -21,4 +21,4 @@ size_of text = units_of text + length text - 1
 pub record IsText (text : List (List ℕ)) : Type 0 where
   pub whole : All IsLine text
   pub some : 0 < length text
-  pub small : size_of text ≤ GREATEST_SIZE
+  pub small : size_of text ≤ MAX_SIZE

@@ -4,7 +4,7 @@ use crate::primitive::Primitive;
 use std::alloc::{AllocError, Global};
 use std::marker::Model;
 
-/// Primitives in the order in which they are made.
+/// A list of primitives, in the order in which they are applied.
 #[derive(Debug, Drop)]
 pub struct Batch {
     primitives: Vec<Primitive>,
@@ -20,7 +20,7 @@ impl Model for Batch {
 }
 
 impl Batch {
-    /// No primitives.
+    /// Creates an empty list, without allocating.
     pub fn new(alloc: Global) -> Batch
         ensures { result ≡ [] }
     {
@@ -29,7 +29,7 @@ impl Batch {
         }
     }
 
-    /// Adds a primitive at the end.
+    /// Appends a primitive. If out of memory, the list is unchanged.
     pub fn push(&mut self, primitive: Primitive) -> Result<(), AllocError>
         ensures ok { OnOk result (self.new ≡ self.old ++ primitive ∷ []) }
         ensures err { OnErr result (self.new ≡ self.old) }
@@ -38,21 +38,21 @@ impl Batch {
         Ok(())
     }
 
-    /// How many there are.
+    /// Returns the number of primitives.
     pub fn len(&self) -> u64
         ensures { result ≡ length self.now }
     {
         self.primitives.len() as u64
     }
 
-    /// Whether there is none.
+    /// Returns `true` if the list is empty.
     pub fn is_empty(&self) -> bool
         ensures { IsTrue result ↔ (self.now ≡ []) }
     {
         self.primitives.is_empty()
     }
 
-    /// Primitive `n`, counted from 0.
+    /// Returns primitive `n`, from 0.
     pub fn get(&self, n: u64) -> &Primitive
         requires { n < length self.now }
         ensures { slice_get self.now n ≡ Some result.now }
@@ -60,7 +60,7 @@ impl Batch {
         &self.primitives[n as usize]
     }
 
-    /// An equal batch.
+    /// Returns an equal list.
     pub fn copy(&self, alloc: Global) -> Result<Batch, AllocError>
         ensures { IfOk result (λ batch. batch ≡ self.now) }
     {

@@ -4,13 +4,13 @@ ghost use Rattle.kte_text.specs.Units.{splits_pair};
 ghost use Rattle.kte_text.specs.Texts.{IsText};
 ghost use Rattle.kte_text.specs.Primitives.{HasEnd, misfit, misplaced, oversize};
 
-use crate::GREATEST_SIZE;
+use crate::MAX_SIZE;
 use crate::line::splits;
 use crate::lines::Lines;
 use crate::primitive::{Misfit, Primitive};
 
-/// Whether a primitive fits a text, and else why not: the first cause in the order in which `Misfit`
-/// has them. An insertion or a removal of nothing is judged as any other.
+/// Checks whether a primitive fits a text. Fails with the first cause in the order of [`Misfit`].
+/// An insertion or a removal of nothing is checked like any other. Takes no memory.
 pub fn fits<L: Lines>(lines: &L, primitive: &Primitive) -> Result<(), Misfit>
     requires { HasEnd primitive.now }
     ensures { result_err result ≡ misfit primitive.now (L.text lines.now) }
@@ -39,7 +39,7 @@ pub fn fits<L: Lines>(lines: &L, primitive: &Primitive) -> Result<(), Misfit>
     }
 }
 
-// Whether the line is there, and may be cut at these columns.
+// Checks that the line is there and may be cut at these columns.
 fn fits_line<L: Lines>(lines: &L, line: u32, columns: &[u64]) -> Result<(), Misfit>
     ensures answer { result_err result ≡ misplaced line columns.now (L.text lines.now) }
     ensures is_text { IsText (L.text lines.now) }
@@ -75,7 +75,7 @@ fn first_splitting(columns: &[u64], units: &[u16]) -> Option<u64>
 fn fits_size(size: u64) -> Result<(), Misfit>
     ensures { result_err result ≡ oversize size }
 {
-    if size > GREATEST_SIZE {
+    if size > MAX_SIZE {
         return Err(Misfit::TooLarge { size });
     }
     Ok(())

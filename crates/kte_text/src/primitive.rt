@@ -4,38 +4,38 @@ use crate::line::Line;
 use std::alloc::{AllocError, Global};
 use thiserror::Error;
 
-/// A change of a text at one place, of which all others are made, after wrapLine, unwrapLine,
-/// insertText and removeText of KTextEditor's Document. Lines and columns count from 0, and columns
-/// and lengths count units of UTF-16.
+/// An elementary edit of a text; every other edit is a sequence of these. They are wrapLine,
+/// unwrapLine, insertText and removeText of KTextEditor's Document. Lines and columns count from 0,
+/// columns and lengths in UTF-16 units.
 #[derive(Debug, Drop)]
 pub enum Primitive {
-    /// The line is cut at the column into two.
+    /// Splits the line in two at the column.
     Wrap { line: u32, column: u64 },
-    /// The line is joined to the end of the line before it.
+    /// Joins the line to the end of the line before it.
     Unwrap { line: u32 },
-    /// The text comes to stand at the column.
+    /// Inserts the text at the column.
     Insert { line: u32, column: u64, text: Line },
-    /// So many units from the column on go.
+    /// Removes `length` units from the column on.
     Remove { line: u32, column: u64, length: u64 },
 }
 
-/// Why a primitive does not fit a text, in the order in which the causes are judged. Of two columns
-/// the first that is at fault is named.
+/// Why a primitive does not fit a text, in the order in which the causes are checked. Of the two
+/// columns of a removal the first at fault is named.
 #[derive(Clone, Copy, Debug, PartialEq, Eq, Drop, Error)]
 pub enum Misfit {
     /// The text has no such line.
     #[error("no line {line}")]
     NoLine { line: u32 },
-    /// The column exceeds the line's length. The column behind the last unit does not.
+    /// The column exceeds the line's length, in units; the column after the last unit does not.
     #[error("no column {column} in line {line}")]
     NoColumn { line: u32, column: u64 },
-    /// The column stands between the two units of a surrogate pair.
+    /// The column is between the two units of a surrogate pair.
     #[error("column {column} of line {line} splits a pair")]
     SplitsPair { line: u32, column: u64 },
-    /// The first line has none before it to be joined to.
+    /// The first line has no line before it to be joined to.
     #[error("the first line has none before it")]
     FirstLine,
-    /// The text would have this size, in units and line ends, which is above the greatest.
+    /// The text would have this size, in units and line ends, which exceeds `MAX_SIZE`.
     #[error("the text would have size {size}")]
     TooLarge { size: u64 },
 }
@@ -43,7 +43,7 @@ pub enum Misfit {
 impl Primitive {
     ghost use Rattle.kte_text.specs.Primitives.{HasLine, is_empty};
 
-    /// Whether it is an insertion or a removal of nothing, which leaves a text as it is.
+    /// Returns `true` for an insertion or a removal of nothing, which leaves a text unchanged.
     pub fn is_empty(&self) -> bool
         ensures answer { result ≡ is_empty self.now }
         ensures has_line { HasLine self.now }
@@ -55,7 +55,7 @@ impl Primitive {
         }
     }
 
-    /// An equal primitive.
+    /// Returns an equal primitive.
     pub fn copy(&self, alloc: Global) -> Result<Primitive, AllocError>
         ensures { IfOk result (λ primitive. primitive ≡ self.now) }
     {

@@ -1,18 +1,20 @@
 ghost use Rattle.std.specs.Prelude.{◌≡◌, [], ◌∷◌, length, IfOk};
 
 use crate::{
-    Batch, GREATEST_SIZE, LONGEST_FILE, Line, Lines, LoadFault, Misfit, Primitive, Text, fits,
+    Batch, Eol, Line, LineFault, Lines, LoadFault, MAX_SIZE, Misfit, Primitive, Text, fits,
     is_boundary, load,
 };
 use std::alloc::{AllocError, Global};
 use std::test::Fail;
 
+mod saving;
+
 // A line of so many letters.
 fn letters(alloc: Global, count: usize) -> Result<Line, AllocError>
     ensures { IfOk result (λ line. length line ≡ count) }
 {
-    let bytes = vec![in alloc; b'a'; count]?;
-    Line::of_ascii(alloc, &bytes)
+    let units = vec![in alloc; 0x61; count]?;
+    Line::of_units(alloc, &units)
 }
 
 // The line of U+1F600 alone.
@@ -22,37 +24,27 @@ fn pair(alloc: Global) -> Result<Line, AllocError>
     Line::of_units(alloc, &[0xD83D, 0xDE00])
 }
 
-fn reads(line: &Line, text: &str) -> bool {
-    let bytes = text.as_bytes();
-    line.len() == bytes.len() as u64
-        && line
-            .units()
-            .iter()
-            .zip(bytes)
-            .all(|(unit, byte)| *unit == u16::from(*byte))
+fn reads(line: &Line, text: &[u16]) -> bool {
+    line.units() == text
 }
 
-fn has_lines(text: &Text, lines: &[&str]) -> bool {
-    if text.len() != lines.len() as u64 {
-        return false;
-    }
-    for (n, line) in lines.iter().enumerate() {
-        if !reads(text.get(n as u64), line) {
-            return false;
-        }
-    }
-    true
+fn has_lines(text: &Text, lines: &[&[u16]]) -> bool {
+    text.len() == lines.len() as u64
+        && lines
+            .iter()
+            .enumerate()
+            .all(|(n, line)| reads(text.get(n as u64), line))
 }
 
 #[test]
 fn a_text_of_the_greatest_size_takes_nothing_more(rt: HostRuntime) -> Result<(), Fail> {
     let alloc = rt.alloc();
-    let text = Text::of(alloc, letters(alloc, GREATEST_SIZE as usize)?)?;
+    let text = Text::of(alloc, letters(alloc, MAX_SIZE as usize)?)?;
     let too_large = Err(Misfit::TooLarge { size: 67_108_865 });
     let insert = Primitive::Insert {
         line: 0,
         column: 0,
-        text: letters(alloc, 1)?,
+        text: Line::from_utf8(alloc, "a")?,
     };
     let wrap = Primitive::Wrap { line: 0, column: 0 };
     let remove = Primitive::Remove {
@@ -76,7 +68,7 @@ fn a_pair_is_not_split(rt: HostRuntime) -> Result<(), Fail> {
         let insert = Primitive::Insert {
             line: 0,
             column,
-            text: letters(alloc, 1)?,
+            text: Line::from_utf8(alloc, "a")?,
         };
         assert_eq!(rt; fits(&text, &wrap), want, "wrap at {column}");
         assert_eq!(rt; fits(&text, &insert), want, "insert at {column}");
@@ -112,30 +104,101 @@ fn a_removal_is_judged_at_both_columns(rt: HostRuntime) -> Result<(), Fail> {
     Ok(())
 }
 
+const A: &[u16] = &[0x61];
+
+const B: &[u16] = &[0x62];
+
+const EMPTY: &[u16] = &[];
+
+// Each file, its lines, its first line end, and whether it begins with a mark.
+const FILES: &[(&[u8], &[&[u16]], Eol, bool)] = &[
+    (b"", &[EMPTY], Eol::Lf, false),
+    (b"\xEF\xBB\xBF", &[EMPTY], Eol::Lf, true),
+    (
+        b"\xEF\xBB\xBF\xEF\xBB\xBFa",
+        &[&[0xFEFF, 0x61]],
+        Eol::Lf,
+        true,
+    ),
+    (b"a\xEF\xBB\xBF", &[&[0x61, 0xFEFF]], Eol::Lf, false),
+    (b"\xEF\xBB\xBFa\r\nb\rc", &[A, B, &[0x63]], Eol::CrLf, true),
+    (b"a\nb", &[A, B], Eol::Lf, false),
+    (b"a\rb", &[A, B], Eol::Cr, false),
+    (b"a\r\nb", &[A, B], Eol::CrLf, false),
+    (b"\n", &[EMPTY, EMPTY], Eol::Lf, false),
+    (b"a\r", &[A, EMPTY], Eol::Cr, false),
+    (b"a\r\n", &[A, EMPTY], Eol::CrLf, false),
+    (b"a\r\r\nb", &[A, EMPTY, B], Eol::Cr, false),
+    (b"a\n\rb", &[A, EMPTY, B], Eol::Lf, false),
+    (b"a\nb\r\na\rb\n", &[A, B, A, B, EMPTY], Eol::Lf, false),
+    (b"\0\0", &[&[0, 0]], Eol::Lf, false),
+    (
+        b"a\xE2\x80\xA8b\xC2\x85a",
+        &[&[0x61, 0x2028, 0x62, 0x85, 0x61]],
+        Eol::Lf,
+        false,
+    ),
+    (
+        b"a\xC3\xA9\xF0\x9F\x98\x80b",
+        &[&[0x61, 0xE9, 0xD83D, 0xDE00, 0x62]],
+        Eol::Lf,
+        false,
+    ),
+];
+
 #[test]
-fn files_have_these_lines(rt: HostRuntime) -> Result<(), Fail> {
+fn files_have_these_texts(rt: HostRuntime) -> Result<(), Fail> {
     let alloc = rt.alloc();
-    let hello = load(alloc, b"hello\n")?;
-    let empty = load(alloc, b"")?;
-    let three = load(alloc, b"a~\n\n b")?;
-    assert!(rt; has_lines(&hello.text, &["hello", ""]));
-    assert!(rt; has_lines(&empty.text, &[""]));
-    assert!(rt; has_lines(&three.text, &["a~", "", " b"]));
+    for (bytes, lines, eol, bom) in FILES {
+        let loaded = load(alloc, bytes)?;
+        assert!(rt; has_lines(&loaded.text, lines), "{bytes:?}");
+        assert_eq!(rt; loaded.eol, *eol, "{bytes:?}");
+        assert_eq!(rt; loaded.bom, *bom, "{bytes:?}");
+    }
+    Ok(())
+}
+
+// Files that are not UTF-8, and the length of their longest prefix that is.
+const FAULTY: &[(&[u8], u64)] = &[
+    (b"a\xFF", 1),
+    (b"\xEF\xBB", 0),
+    (b"\xEF\xBB\xBFa\xEF\xBB", 4),
+    (b"\x80", 0),
+    (b"a\xC0\x80", 1),
+    (b"\r\n\xE0\x80\x80", 2),
+    (b"\xED\xA0\x80", 0),
+    (b"\xF4\x90\x80\x80", 0),
+    (b"\xF0\x9F\x98\x80\xF0\x9F\x98", 4),
+];
+
+#[test]
+fn other_bytes_are_not_utf8(rt: HostRuntime) -> Result<(), Fail> {
+    let alloc = rt.alloc();
+    for (bytes, at) in FAULTY {
+        let fault = LoadFault::NotUtf8 { at: *at };
+        assert_eq!(rt; load(alloc, bytes).err(), Some(fault), "{bytes:?}");
+    }
     Ok(())
 }
 
 #[test]
-fn other_files_are_not_read_yet(rt: HostRuntime) -> Result<(), Fail> {
+fn a_line_has_no_greatest_length_of_its_own(rt: HostRuntime) -> Result<(), Fail> {
     let alloc = rt.alloc();
-    let longest = vec![in alloc; b' '; LONGEST_FILE as usize]?;
-    let longer = vec![in alloc; b' '; 1_048_577]?;
-    let not_yet = Some(LoadFault::NotYet);
-    assert_eq!(rt; load(alloc, &[0xC3]).err(), not_yet);
-    assert_eq!(rt; load(alloc, b"a\r\n").err(), not_yet);
-    assert_eq!(rt; load(alloc, b"\t").err(), not_yet);
-    assert_eq!(rt; load(alloc, b"\x7F").err(), not_yet);
-    assert_eq!(rt; load(alloc, &longer).err(), not_yet);
-    assert_eq!(rt; load(alloc, &longest)?.text.size(), 1_048_576);
+    let text = load(alloc, &vec![in alloc; b'a'; 1_000_000]?)?.text;
+    assert_eq!(rt; text.len(), 1);
+    assert_eq!(rt; text.size(), 1_000_000);
+    Ok(())
+}
+
+#[test]
+fn a_line_has_no_line_end(rt: HostRuntime) -> Result<(), Fail> {
+    let alloc = rt.alloc();
+    let line = Line::from_utf8(alloc, "a\u{1F600}\u{2028}")?;
+    assert!(rt; reads(&line, &[0x61, 0xD83D, 0xDE00, 0x2028]));
+    for (text, at) in [("\n", 0), ("\u{E9}\r\n", 2), ("a\u{1F600}\n\r", 5)] {
+        let fault = LineFault::HasEnd { at };
+        assert_eq!(rt; Line::from_utf8(alloc, text).err(), Some(fault), "{text:?}");
+    }
     Ok(())
 }
 
@@ -145,10 +208,10 @@ fn copies_are_equal(rt: HostRuntime) -> Result<(), Fail> {
     let mut text = Text::of(alloc, letters(alloc, 1)?)?;
     text.push(letters(alloc, 2)?)?;
     let copy = text.copy(alloc)?;
-    assert!(rt; has_lines(&copy, &["a", "aa"]));
+    assert!(rt; has_lines(&copy, &[A, &[0x61, 0x61]]));
     let lines = copy.into_lines();
     assert_eq!(rt; lines.len(), 2);
-    assert!(rt; reads(&lines[1].copy(alloc)?, "aa"));
+    assert!(rt; reads(&lines[1].copy(alloc)?, &[0x61, 0x61]));
     Ok(())
 }
 

@@ -1,14 +1,14 @@
 ghost use Rattle.std.specs.Prelude.{◌≡◌, ℕ, ◌<◌, ◌≤◌, ◌↔◌, List, [], ◌∷◌, ◌++◌, length, IfOk, OnOk, OnErr, IsTrue};
 ghost use Rattle.kte_text.specs.Texts.{IsText, line_at, size_of};
-ghost use Rattle.kte_text.specs.declared.TheConstants.{GREATEST_SIZE};
+ghost use Rattle.kte_text.specs.declared.TheConstants.{MAX_SIZE};
 
 use crate::line::Line;
 use crate::lines::Lines;
 use std::alloc::{AllocError, Global};
 use std::marker::Model;
 
-/// A text: its lines, of which there is at least one, and which are at most the greatest size
-/// together. The size counts the units, and one for the end between each two lines.
+/// A text: at least one line, and at most `MAX_SIZE` units and line ends. Its size counts its
+/// units, and one for the end between each two lines.
 #[derive(Debug, Drop)]
 pub struct Text {
     lines: Vec<Line>,
@@ -28,9 +28,9 @@ impl Model for Text {
 }
 
 impl Text {
-    /// The text of one line.
+    /// Creates the text of one line.
     pub fn of(alloc: Global, line: Line) -> Result<Text, AllocError>
-        requires { length line ≤ GREATEST_SIZE }
+        requires { length line ≤ MAX_SIZE }
         ensures { IfOk result (λ text. text ≡ line ∷ []) }
     {
         let size = line.units().len() as u64;
@@ -39,7 +39,7 @@ impl Text {
         Ok(Text { lines, size })
     }
 
-    /// The text of these lines.
+    /// Creates the text of these lines.
     pub(crate) fn of_lines(lines: Vec<Line>) -> Text
         requires { IsText lines.items }
         ensures { result ≡ lines.items }
@@ -49,7 +49,7 @@ impl Text {
         Text { lines, size }
     }
 
-    /// The lines, for a caller that goes on with them.
+    /// Returns the lines themselves, without copying.
     pub fn into_lines(self) -> Vec<Line>
         ensures lines { result.items ≡ self }
         ensures is_text { IsText self }
@@ -57,9 +57,9 @@ impl Text {
         self.lines
     }
 
-    /// Adds a line at the end.
+    /// Appends a line. If out of memory, the text is unchanged.
     pub fn push(&mut self, line: Line) -> Result<(), AllocError>
-        requires { size_of (self.old ++ line ∷ []) ≤ GREATEST_SIZE }
+        requires { size_of (self.old ++ line ∷ []) ≤ MAX_SIZE }
         ensures ok { OnOk result (self.new ≡ self.old ++ line ∷ []) }
         ensures err { OnErr result (self.new ≡ self.old) }
     {
@@ -69,14 +69,14 @@ impl Text {
         Ok(())
     }
 
-    /// How many lines there are.
+    /// Returns the number of lines.
     pub fn len(&self) -> u64
         ensures { result ≡ length self.now }
     {
         self.lines.len() as u64
     }
 
-    /// Line `n`, counted from 0.
+    /// Returns line `n`, from 0.
     pub fn get(&self, n: u64) -> &Line
         requires { n < length self.now }
         ensures { result.now ≡ line_at self.now n }
@@ -84,7 +84,7 @@ impl Text {
         &self.lines[n as usize]
     }
 
-    /// An equal text.
+    /// Returns an equal text.
     pub fn copy(&self, alloc: Global) -> Result<Text, AllocError>
         ensures { IfOk result (λ text. text ≡ self.now) }
     {
@@ -110,6 +110,10 @@ impl Lines for Text {
 
     fn line(&self, n: u32) -> &[u16] {
         self.lines[n as usize].units()
+    }
+
+    fn line_hinted(&self, n: u32, _hint: &mut u64) -> &[u16] {
+        self.line(n)
     }
 
     fn size(&self) -> u64 {

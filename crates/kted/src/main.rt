@@ -1,31 +1,57 @@
 //! `kted`: edits the text of a file by a script.
 //!
-//! All that it does is proved of `kte_run::run`, over any source, sink and disk; here stand the real ones.
+//! What it does is proved of `kte_run::run`, over any source, sink and disk; here stand the real
+//! ones.
 #![tactic(auto)]
 
 use kte_causes::{CalmDisk, FileDisk, StdSink, StdSource};
 use kte_run::{Status, Word, run};
 use std::alloc::{AllocError, Global};
-use std::env::Env;
+use std::env::{Env, FillError};
+use std::io;
 use std::process::ExitCode;
-use std::{env, io};
+
+/// The room that a word is first read into, in bytes.
+const FIRST_ROOM: usize = 256;
 
 fn main(rt: HostRuntime) -> ExitCode {
     let status = match words(&rt) {
         Ok(words) => edit(&rt, &words),
-        Err(_) => Status::NoMemory,
+        Err(AllocError) => Status::NoMemory,
     };
     report(&rt, status);
     ExitCode::from(status.code())
 }
 
-/// The words behind the program's name.
-fn words(rt: &(impl Env + Alloc<A = Global>)) -> io::Result<Vec<Word>> {
+/// Returns the words after the program's name.
+fn words(rt: &(impl Env + Alloc<A = Global>)) -> Result<Vec<Word>, AllocError> {
     let mut words = Vec::new(rt.alloc());
-    for text in env::args(rt)?.skip(1) {
-        words.push(Word::new(text))?;
+    for n in 1..usize::MAX {
+        match word(rt, n)? {
+            Some(word) => words.push(word)?,
+            None => break,
+        }
     }
     Ok(words)
+}
+
+/// Returns argument `n` of the program, if there is one. An argument that is not UTF-8 gives an
+/// empty word, which fits nowhere.
+fn word(rt: &(impl Env + Alloc<A = Global>), n: usize) -> Result<Option<Word>, AllocError> {
+    let mut room = FIRST_ROOM;
+    for _ in 0..usize::BITS {
+        let mut bytes = vec![in rt.alloc(); 0; room]?;
+        match rt.arg(n, &mut bytes) {
+            Ok(length) => {
+                bytes.truncate(length);
+                let text = String::from_utf8(bytes).unwrap_or(String::new(rt.alloc()));
+                return Ok(Some(Word::new(text)));
+            }
+            Err(FillError::NotPresent) => return Ok(None),
+            Err(FillError::TooLong) => room = room.saturating_mul(2),
+        }
+    }
+    Err(AllocError)
 }
 
 /// Runs the words over the real streams, and over the file that the second one names.
@@ -45,7 +71,7 @@ fn edit(rt: &HostRuntime, words: &[Word]) -> Status {
     }
 }
 
-/// The line of the status, on standard error.
+/// Writes the line of the status on standard error.
 fn report(rt: &(impl Eprint + Alloc<A = Global>), status: Status) {
     if let Ok(line) = status.line(rt.alloc()) {
         if !line.is_empty() {

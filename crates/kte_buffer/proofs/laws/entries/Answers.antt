@@ -1,4 +1,4 @@
-use Rattle.kte_buffer.specs.Laws.{EntryFits-entry, IsWithin-entry, lines_after-entry, touched_within}
+use Rattle.kte_buffer.proofs.CallerLemmas.{EntryFits-entry, IsWithin-entry, lines_after-entry, touched_within}
 use Rattle.kte_buffer.proofs.laws.entries.Goals as goal
 
 pub returns : goal.returns

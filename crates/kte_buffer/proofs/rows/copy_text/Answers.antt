@@ -2,7 +2,7 @@ use Rattle.std.proofs.Common.{◌+◌, sym, ◌∙◌, ap, subst, arith}
 use Rattle.std.proofs.lemmas.List.Elements.{All-get_or}
 use Rattle.kte_text.specs.Units.{IsLine}
 use Rattle.kte_text.specs.Texts.{size_of}
-use Rattle.kte_text.specs.Laws.{size_of-take-le}
+use Rattle.kte_text.proofs.PrimitiveLemmas.{size_of-take-le}
 use Rattle.kte_buffer.specs.Rows.{lines_in}
 use Rattle.kte_buffer.proofs.RowLemmas.{later_row, later_within}
 use Rattle.kte_buffer.proofs.TextLemmas.{take-line}

@@ -1,4 +1,4 @@
-use Rattle.std.proofs.Common.{sym, subst}
+use Rattle.std.proofs.Common.{ap, sym, subst}
 use Rattle.std.specs.Option.{IsSome}
 use Rattle.std.specs.FinMap as map
 use Rattle.kte_buffer.proofs.TestLemmas.{hangs, hangs_still, hangs_without, free_differs}
@@ -15,4 +15,4 @@ place-requires g c =
     let first = subst (λ m. IsSome (map.get m id)) (sym c.in_ok-kept.ensures.hung) (hangs _ id _) in
     let differs = free_differs _ c.in_ok-gone.gone id c.in_ok-gone.ensures.free first in
     let both = subst (λ m. IsSome (map.get m id)) (sym c.in_ok-gone.ensures.hung) (hangs_still _ _ id _ first) in
-    subst (λ m. IsSome (map.get m id)) (sym c.unhang.ensures.cursors) (hangs_without _ _ id differs both)
+    subst (λ m. IsSome (map.get m id)) (sym (ap (λ b. b.hung) c.unhang.ensures.gone)) (hangs_without _ _ id differs both)

@@ -6,7 +6,7 @@ use Rattle.kte_doc.proofs.Hanging.{come_hangs, come_and_gone, come_both}
 use Rattle.kte_doc.proofs.cursors.hang_both.Goals as goal
 
 pub unhang-requires : goal.unhang-requires
-unhang-requires c = come_hangs _ _ _ _ (ap (λ b. b.hung) c.in-Err.ensures.err ∙ c.in_ok-start.ensures.hung)
+unhang-requires c = come_hangs _ _ _ _ (ap (λ b. b.hung) (c.in-Err.ensures.err ∙ c.in_ok-start.ensures.ok))
 
 pub returns-in-Ok-clause-cursors : goal.returns-in-Ok-clause-cursors
 returns-in-Ok-clause-cursors c =
@@ -14,8 +14,8 @@ returns-in-Ok-clause-cursors c =
     (hanging c.span.inside.start c.start.result) (hanging c.span.inside.end c.end.result)
     (ap (λ on. hanging c.span.inside.start on) c.start.ensures ∙ ap (λ (s : Ends). hanging s.start (start_on c.args.expand)) c.span.view_is)
     (ap (λ on. hanging c.span.inside.end on) c.end.ensures ∙ ap (λ (s : Ends). hanging s.end (end_on c.args.expand)) c.span.view_is)
-    c.in_ok-start.ensures.free c.in_ok-start.ensures.hung c.in-Ok.ensures.free c.in-Ok.ensures.hung
+    c.in_ok-start.ensures.free (ap (λ b. b.hung) c.in_ok-start.ensures.ok) c.in-Ok.ensures.free (ap (λ b. b.hung) c.in-Ok.ensures.ok)
 
 pub returns-in-Err-clause-err : goal.returns-in-Err-clause-err
 returns-in-Err-clause-err c =
-    come_and_gone _ _ _ _ _ c.in_ok-start.ensures.free (ap (λ b. b.hung) c.in-Err.ensures.err ∙ c.in_ok-start.ensures.hung) c.unhang.ensures.cursors
+    come_and_gone _ _ _ _ _ c.in_ok-start.ensures.free (ap (λ b. b.hung) (c.in-Err.ensures.err ∙ c.in_ok-start.ensures.ok)) (ap (λ b. b.hung) c.unhang.ensures.gone)

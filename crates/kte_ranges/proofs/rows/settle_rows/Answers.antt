@@ -22,5 +22,6 @@ loop-row-preserved g c = record {
   so_far = after _ _ c.args.rows.now c.loop-row.row-items c.loop-row.row-index c.loop-row.invariant.so_far c.requires.apart c.loop-row-test.true
       c.row-item.result _ c.settle.new.self c.settle.ensures.info c.settle.ensures.cursors c.settle.ensures.others;
   lines = c.settle.ensures.lines ∙ c.loop-row.invariant.lines;
+  near = c.settle.ensures.near ∙ c.loop-row.invariant.near;
   rest = c.settle.ensures.rest ∙ c.loop-row.invariant.rest;
 }

@@ -6,5 +6,6 @@ abbrev pub invariant-loop-row : goal.invariant-loop-row
 invariant-loop-row g l = record {
   so_far : SettledUpTo (g.C.Cursors.hung l.initial.cursors) (g.C.Cursors.hung l.cursors) l.initial.row-items l.row-items l.row-index;
   lines : g.C.Cursors.ready l.cursors ≡ g.C.Cursors.ready l.initial.cursors;
+  near : g.C.Cursors.near l.cursors ≡ g.C.Cursors.near l.initial.cursors;
   rest : g.C.Cursors.rest l.cursors ≡ g.C.Cursors.rest l.initial.cursors;
 }

@@ -1,15 +1,20 @@
-use Rattle.kte_core.specs.Replay.{beginning, present}
-use Rattle.kte_run.specs.declared.TheConstants.{MOST_REVISIONS}
-use Rattle.kte_run.proofs.Replies.{edited-push, printed-push}
+use Rattle.std.proofs.Common.{refl, ap, ◌∙◌, ◌++◌, ◌∷◌, [], List}
+use Rattle.kte_core.specs.Replay.{Session}
+use Rattle.kte_core.specs.declared.event.Event.{Event}
+use Rattle.kte_core.specs.declared.request.Command.{Command}
+use Rattle.kte_core.specs.declared.request.Request.TheVariants.{Cmd}
+use Rattle.kte_run.specs.Run.{commands_in}
+use Rattle.kte_run.proofs.Journals.{commands_in-push}
 use Rattle.kte_run.proofs.program.edited.Goals as goal
 
 pub loop-command-preserved : goal.loop-command-preserved
 loop-command-preserved c =
-    let start = beginning c.args.loaded.text MOST_REVISIONS in
-    let before = present c.loop-command.core in
-    let was = c.loop-command.invariant.2 in (
+    let event : Event = record { seat = 0; request = Cmd c.in-Some.command; reply = c.in_ok-step.field-0.reply } in (
       tt,
       tt,
-      edited-push start before _ c.loop-command.yielded c.in-Some.command was c.in_ok-step.ensures.leads,
-      printed-push start before c.loop-command.yielded c.in-Some.command c.in_ok-step.step.reply _ _ was c.in_ok-step.ensures.reply c.loop-command.invariant.3 c.in_ok-push_reply.ensures,
+      ap (λ (session : Session). session.loaded) c.in_ok-step.ensures.event ∙ c.loop-command.invariant.2,
+      ap (λ (session : Session). session.limit) c.in_ok-step.ensures.event ∙ c.loop-command.invariant.3,
+      ap (λ (session : Session). commands_in session.events) c.in_ok-step.ensures.event
+          ∙ commands_in-push c.loop-command.core.events event c.in-Some.command refl
+          ∙ ap (λ (commands : List Command). commands ++ c.in-Some.command ∷ []) c.loop-command.invariant.4,
     )

@@ -1,6 +1,6 @@
 use Rattle.std.proofs.Common.{◌≡◌, sym, subst, rules}
 use Rattle.kte_text.specs.Units.{IsLine}
-use Rattle.kte_text.specs.Laws.{IsLine-printable}
+use Rattle.kte_text.proofs.LineLemmas.{IsLine-printable}
 use Rattle.kte_run.proofs.script.plain_line.Goals as goal
 
 pub of_units-requires : goal.of_units-requires

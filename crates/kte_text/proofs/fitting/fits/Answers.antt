@@ -1,5 +1,5 @@
 use Rattle.std.proofs.Common.{sym, arith, ◌<◌}
-use Rattle.kte_text.specs.Laws.{misfit-wrap, misfit-unwrap}
+use Rattle.kte_text.proofs.PrimitiveLemmas.{misfit-wrap, misfit-unwrap}
 use Rattle.kte_text.proofs.fitting.fits.Goals as goal
 
 pub returns-in_ok-fits_line-in-Wrap : goal.returns-in_ok-fits_line-in-Wrap

@@ -1,4 +1,4 @@
-use Rattle.kte_text.specs.Laws.{IsLine-take, IsLine-drop}
+use Rattle.kte_text.proofs.LineLemmas.{IsLine-take, IsLine-drop}
 use Rattle.kte_text.proofs.laws.cut_lines_are_lines.Goals as goal
 
 pub returns-clause-front : goal.returns-clause-front

@@ -1,4 +1,4 @@
-use Rattle.kte_text.specs.Laws.{IsLine-append, IsLine-insert, IsLine-remove}
+use Rattle.kte_text.proofs.LineLemmas.{IsLine-append, IsLine-insert, IsLine-remove}
 use Rattle.kte_text.proofs.laws.joined_lines_are_lines.Goals as goal
 
 pub returns-clause-joined : goal.returns-clause-joined

@@ -1,4 +1,4 @@
-use Rattle.kte_text.specs.Laws.{length-after_wrap, length-after_unwrap, length-after_insert, length-after_remove}
+use Rattle.kte_text.proofs.PrimitiveLemmas.{length-after_wrap, length-after_unwrap, length-after_insert, length-after_remove}
 use Rattle.kte_text.proofs.laws.lengths_after.Goals as goal
 
 pub returns-clause-wrap : goal.returns-clause-wrap

@@ -1,4 +1,4 @@
-use Rattle.kte_text.specs.Laws.{after_all-append, FitInTurn-append}
+use Rattle.kte_text.proofs.PrimitiveLemmas.{after_all-append, FitInTurn-append}
 use Rattle.kte_text.proofs.laws.primitives_follow_each_other.Goals as goal
 
 pub returns-clause-text : goal.returns-clause-text

@@ -1,4 +1,4 @@
-use Rattle.kte_text.specs.Laws.{size_of-after_wrap, size_of-after_unwrap, size_of-after_insert, size_of-after_remove}
+use Rattle.kte_text.proofs.PrimitiveLemmas.{size_of-after_wrap, size_of-after_unwrap, size_of-after_insert, size_of-after_remove}
 use Rattle.kte_text.proofs.laws.sizes_after.Goals as goal
 
 pub returns-clause-wrap : goal.returns-clause-wrap

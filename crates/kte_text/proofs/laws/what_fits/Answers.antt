@@ -1,4 +1,4 @@
-use Rattle.kte_text.specs.Laws.{FitsText-from_misfit, misfit-from_FitsText}
+use Rattle.kte_text.proofs.PrimitiveLemmas.{FitsText-from_misfit, misfit-from_FitsText}
 use Rattle.kte_text.proofs.laws.what_fits.Goals as goal
 
 pub returns-clause-none_fits : goal.returns-clause-none_fits

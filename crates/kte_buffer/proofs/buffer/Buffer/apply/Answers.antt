@@ -3,15 +3,15 @@ use Rattle.std.proofs.lemmas.List.{length-map}
 use Rattle.std.specs.Option.{option_map}
 use Rattle.slab.specs.Slab.{get}
 use Rattle.kte_text.specs.Primitives.{FitsText, misfit}
-use Rattle.kte_text.specs.Laws.{FitsText-from_misfit}
+use Rattle.kte_text.proofs.PrimitiveLemmas.{FitsText-from_misfit}
 use Rattle.kte_place.specs.Entry.{EntryFits}
 use Rattle.kte_buffer.specs.declared.buffer.Ready.TheVariants.{ToRehome}
 use Rattle.kte_buffer.specs.Entries.{entry}
 use Rattle.kte_buffer.specs.Rows.{lines_in}
 use Rattle.kte_buffer.specs.Cursors.{StandWithin, cursor_after}
-use Rattle.kte_buffer.specs.Laws.{EntryFits-entry}
-use Rattle.kte_buffer.proofs.ChangeLemmas.{added_by-fits, taken_by-fits}
-use Rattle.kte_buffer.proofs.SoundLemmas.{PlaceFits-hung, IsSound-after, get-carried}
+use Rattle.kte_buffer.proofs.CallerLemmas.{EntryFits-entry}
+use Rattle.kte_buffer.proofs.ChangeLemmas.{given-fits, taken_by-fits}
+use Rattle.kte_buffer.proofs.SoundLemmas.{PlaceFits-hung, IsSound-after, get-carried, get-listed}
 use Rattle.kte_buffer.proofs.buffer.Buffer.apply.Goals as goal
 
 pub entry_of-entry-requires : goal.entry_of-entry-requires
@@ -19,14 +19,14 @@ entry_of-entry-requires c =
     subst (FitsText c.args.primitive.now) (sym (ap lines_in c.as_slice.ensures.value))
     (FitsText-from_misfit _ _ (ap (λ b. misfit c.args.primitive.now b.text) c.self.view_is ∙ c.requires.ready.fits))
 
-pub make-requires-clause-fits : goal.make-requires-clause-fits
-make-requires-clause-fits c =
+pub apply-requires-clause-fits : goal.apply-requires-clause-fits
+apply-requires-clause-fits c =
     FitsText-from_misfit _ _ (ap (λ b. misfit c.args.primitive.now b.text) c.self.view_is ∙ c.requires.ready.fits)
 
 pub size_after-self-inside-requires-clause-room : goal.size_after-self-inside-requires-clause-room
 size_after-self-inside-requires-clause-room c =
     let fits = FitsText-from_misfit c.args.primitive.now (lines_in c.self.inside.rows.items) (ap (λ b. misfit c.args.primitive.now b.text) c.self.view_is ∙ c.requires.ready.fits) in
-    omega (arith, c.self.invariant.size, added_by-fits c.args.primitive.now (lines_in c.self.inside.rows.items) c.self.invariant.text fits)
+    omega (arith, c.self.invariant.size, given-fits c.args.primitive.now (lines_in c.self.inside.rows.items) c.self.invariant.text fits)
 
 pub size_after-self-inside-requires-clause-there : goal.size_after-self-inside-requires-clause-there
 size_after-self-inside-requires-clause-there c =
@@ -55,10 +55,13 @@ invariant_of-self c =
     c.entry_of-entry.ensures ∙ ap (λ rows. entry c.args.primitive.now (lines_in rows)) c.as_slice.ensures.value in
     IsSound-after c.args.primitive.now c.self.inside _ c.self.invariant
     (ap (λ b. misfit c.args.primitive.now b.text) c.self.view_is ∙ c.requires.ready.fits)
-    c.make.ensures.line c.make.ensures.lines c.make.ensures.empty c.size_after-self-inside.ensures
-    (λ key. c.carry.ensures key ∙ ap (λ e. option_map (cursor_after e) (get c.self.inside.cursors key)) is)
+    c.apply.ensures.line c.apply.ensures.lines c.apply.ensures.empty c.size_after-self-inside.ensures
+    (λ key. c.carry.ensures.carried key ∙ ap (λ e. option_map (cursor_after e) (get c.self.inside.cursors key)) is)
     (ap ToRehome is)
 
 pub returns-clause-hung : goal.returns-clause-hung
 returns-clause-hung c =
-    get-carried c.entry_of-entry.result c.self.inside.cursors c.carry.new.cursors c.args.self.now.hung (ap (λ b. b.hung) c.self.view_is) c.carry.ensures
+    get-carried c.entry_of-entry.result c.self.inside.cursors c.carry.new.cursors c.args.self.now.hung (ap (λ b. b.hung) c.self.view_is) c.carry.ensures.carried
+
+pub returns-clause-near : goal.returns-clause-near
+returns-clause-near c = get-listed c.entry_of-entry.result c.carry.new.cursors c.carry.new.near.items c.carry.ensures.near

@@ -1,6 +1,6 @@
 use Rattle.std.proofs.Common.{ap, ◌∙◌, sym, subst}
 use Rattle.kte_text.specs.Primitives.{FitsText, misfit}
-use Rattle.kte_text.specs.Laws.{FitsText-from_misfit}
+use Rattle.kte_text.proofs.PrimitiveLemmas.{FitsText-from_misfit}
 use Rattle.kte_buffer.specs.Rows.{lines_in}
 use Rattle.kte_buffer.proofs.buffer.Buffer.reserve.Goals as goal
 

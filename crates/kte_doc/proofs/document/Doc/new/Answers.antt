@@ -1,4 +1,4 @@
-use Rattle.std.proofs.Common.{refl, arith}
+use Rattle.std.proofs.Common.{ap, refl, arith}
 use Rattle.kte_doc.proofs.Beginning.{CursorsFit-empty, no_standings, CameBy-new}
 use Rattle.kte_doc.proofs.document.Doc.new.Goals as goal
 
@@ -6,11 +6,11 @@ pub invariant_of-result : goal.invariant_of-result
 invariant_of-result c = record {
   within = omega arith;
   small = c.requires;
-  cursors = CursorsFit-empty _ _ _ _ c.in_ok-new.ensures.hung c.new-2.ensures.ranges;
+  cursors = CursorsFit-empty _ _ _ _ (ap (λ b. b.hung) c.in_ok-new.ensures) c.new-2.ensures.ranges;
 }
 
 pub returns-clause-ranges : goal.returns-clause-ranges
 returns-clause-ranges c = no_standings _ _ c.new-2.ensures.ranges
 
 pub returns-clause-came : goal.returns-clause-came
-returns-clause-came c = CameBy-new _ _ c.in_ok-new.ensures.text refl (no_standings _ _ c.new-2.ensures.ranges) c.new-2.ensures.next
+returns-clause-came c = CameBy-new _ _ (ap (λ b. b.text) c.in_ok-new.ensures) refl (no_standings _ _ c.new-2.ensures.ranges) c.new-2.ensures.next

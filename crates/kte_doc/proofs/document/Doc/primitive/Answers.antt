@@ -14,31 +14,31 @@ use Rattle.kte_doc.proofs.document.Doc.primitive.Goals as goal
 
 pub apply-entry-requires-clause-columns : goal.apply-entry-requires-clause-columns
 apply-entry-requires-clause-columns c =
-    columns_fit _ _ _ _ (farthest_at c.self.inside.revision) (omega (arith, c.self.invariant.small)) c.reserve.ensures.hung c.self.invariant.cursors
+    columns_fit _ _ _ _ (farthest_at c.self.inside.revision) (omega (arith, c.self.invariant.small)) (ap (λ b. b.hung) c.reserve.ensures.kept) c.self.invariant.cursors
 
 pub settle-requires-clause-hang : goal.settle-requires-clause-hang
 settle-requires-clause-hang c =
     let carries = Carries-primitive c.args.primitive.now c.self.inside.buffer.text _ c.self.inside.revision c.self.inside.limit _ _ _ _ _
-    (sym c.in_default.ensures) c.if-self.false c.self.invariant.small c.apply-entry.ensures.entry c.reserve.ensures.text
-    c.self.invariant.cursors c.reserve.ensures.hung c.apply-entry.ensures.hung in
+    (sym c.in_default.ensures) c.if-self.false c.self.invariant.small c.apply-entry.ensures.entry (ap (λ b. b.text) c.reserve.ensures.kept)
+    c.self.invariant.cursors (ap (λ b. b.hung) c.reserve.ensures.kept) c.apply-entry.ensures.hung in
     hang_now _ _ _ _ _ _ _ _ carries
 
 pub settle-requires-clause-ready : goal.settle-requires-clause-ready
 settle-requires-clause-ready c =
     let carries = Carries-primitive c.args.primitive.now c.self.inside.buffer.text _ c.self.inside.revision c.self.inside.limit _ _ _ _ _
-    (sym c.in_default.ensures) c.if-self.false c.self.invariant.small c.apply-entry.ensures.entry c.reserve.ensures.text
-    c.self.invariant.cursors c.reserve.ensures.hung c.apply-entry.ensures.hung in
+    (sym c.in_default.ensures) c.if-self.false c.self.invariant.small c.apply-entry.ensures.entry (ap (λ b. b.text) c.reserve.ensures.kept)
+    c.self.invariant.cursors (ap (λ b. b.hung) c.reserve.ensures.kept) c.apply-entry.ensures.hung in
     subst (λ ready. StartsAreReady c.apply-entry.new.self.hung (is_home ready) c.self.inside.ranges.ranges) (sym c.apply-entry.ensures.ready)
     (ready_now _ _ _ _ _ _ _ _ carries)
 
 pub invariant_of-self-2 : goal.invariant_of-self-2
 invariant_of-self-2 c =
     let carries = Carries-primitive c.args.primitive.now c.self.inside.buffer.text _ c.self.inside.revision c.self.inside.limit _ _ _ _ _
-    (sym c.in_default.ensures) c.if-self.false c.self.invariant.small c.apply-entry.ensures.entry c.reserve.ensures.text
-    c.self.invariant.cursors c.reserve.ensures.hung c.apply-entry.ensures.hung in
+    (sym c.in_default.ensures) c.if-self.false c.self.invariant.small c.apply-entry.ensures.entry (ap (λ b. b.text) c.reserve.ensures.kept)
+    c.self.invariant.cursors (ap (λ b. b.hung) c.reserve.ensures.kept) c.apply-entry.ensures.hung in
     let fit = CursorsFit-settled _ _ _ _ _ _ _ _ carries _ _ c.settle.ensures.ranges c.settle.ensures.spans c.settle.ensures.cursors
     c.settle.ensures.others c.settle.ensures.apart in
-    let text = c.settle.ensures.rest ∙ c.apply-entry.ensures.text ∙ ap (after c.args.primitive.now) c.reserve.ensures.text in
+    let text = c.settle.ensures.rest ∙ c.apply-entry.ensures.text ∙ ap (after c.args.primitive.now) (ap (λ b. b.text) c.reserve.ensures.kept) in
     record {
       within = omega arith;
       small = c.self.invariant.small;
@@ -49,13 +49,13 @@ invariant_of-self-2 c =
 ranges : goal.returns-clause-ranges
 ranges c id =
     let carries = Carries-primitive c.args.primitive.now c.self.inside.buffer.text _ c.self.inside.revision c.self.inside.limit _ _ _ _ _
-    (sym c.in_default.ensures) c.if-self.false c.self.invariant.small c.apply-entry.ensures.entry c.reserve.ensures.text
-    c.self.invariant.cursors c.reserve.ensures.hung c.apply-entry.ensures.hung in
+    (sym c.in_default.ensures) c.if-self.false c.self.invariant.small c.apply-entry.ensures.entry (ap (λ b. b.text) c.reserve.ensures.kept)
+    c.self.invariant.cursors (ap (λ b. b.hung) c.reserve.ensures.kept) c.apply-entry.ensures.hung in
     let moved = ranges_moved _ _ _ _ _ _ _ _ carries _ _ c.settle.ensures.ranges c.settle.ensures.spans c.settle.ensures.cursors
     c.settle.ensures.others c.settle.ensures.apart id in
     moved
     ∙ ap (λ (e : Entry). option_map (moved_over e) (get (standings_of c.self.inside.buffer.hung c.self.inside.ranges.ranges) id))
-    (c.apply-entry.ensures.entry ∙ ap (entry c.args.primitive.now) c.reserve.ensures.text)
+    (c.apply-entry.ensures.entry ∙ ap (entry c.args.primitive.now) (ap (λ b. b.text) c.reserve.ensures.kept))
     ∙ ap (λ d. option_map (moved_over (entry c.args.primitive.now d.text)) (get d.ranges id)) c.self.view_is
 
 pub returns-clause-ranges : goal.returns-clause-ranges
@@ -65,7 +65,7 @@ pub returns-clause-came : goal.returns-clause-came
 returns-clause-came c loaded trail came =
     CameBy-primitive loaded trail c.args.primitive.now c.args.self.now _ came
     (subst (λ d. misfit c.args.primitive.now d.text ≡ None) c.self.view_is (sym c.in_default.ensures)) c.requires.some
-    (c.settle.ensures.rest ∙ c.apply-entry.ensures.text ∙ ap (after c.args.primitive.now) c.reserve.ensures.text
+    (c.settle.ensures.rest ∙ c.apply-entry.ensures.text ∙ ap (after c.args.primitive.now) (ap (λ b. b.text) c.reserve.ensures.kept)
     ∙ ap (λ d. after c.args.primitive.now d.text) c.self.view_is)
     (ap (λ d. d.revision + 1) c.self.view_is)
     (c.settle.ensures.next ∙ ap (λ d. d.next) c.self.view_is)

@@ -1,0 +1,11 @@
+use Rattle.std.proofs.Common.{[], subst}
+use Rattle.kte_doc.specs.Documents.{CameBy}
+use Rattle.kte_core.proofs.ReplayLemmas.{IsSound-new}
+use Rattle.kte_core.proofs.session.Core.new.Goals as goal
+
+pub invariant_of-result : goal.invariant_of-result
+invariant_of-result c =
+    IsSound-new (record { loaded = c.args.loaded; limit = c.args.revisions; doc = c.in_ok-doc.doc; journal = c.new-2.result })
+    c.new-2.ensures
+    (subst (λ text. CameBy text [] c.in_ok-doc.doc) c.in_ok-copy.ensures c.in_ok-doc.ensures.came)
+    c.in_ok-doc.ensures.limit c.in_ok-doc.ensures.ranges c.in_ok-doc.ensures.next

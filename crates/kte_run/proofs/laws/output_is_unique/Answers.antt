@@ -1,0 +1,5 @@
+use Rattle.kte_run.proofs.Journals.{Outputs-same}
+use Rattle.kte_run.proofs.laws.output_is_unique.Goals as goal
+
+pub returns : goal.returns
+returns c = Outputs-same

@@ -1,0 +1,2 @@
+pub mod MisfitLemmas
+mod Examples

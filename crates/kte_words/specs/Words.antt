@@ -1,0 +1,31 @@
+-- Which words are a command of the program, and which word does not fit. This project's own form
+use Rattle.std.specs.Prelude.{◌≡◌, ◌≢◌, ◌≤◌, ◌↔◌, ℕ, List, [], ◌∷◌, ◌++◌, length, take, codes, Option, Some}
+use Rattle.kte_words.specs.declared.words.Words.{Words}
+use Rattle.kte_words.specs.declared.words.Words.TheVariants.{Edit}
+
+-- The words of each command, one case a command; no other words are one. A file's name is any word
+-- that is not empty
+abbrev pub Spells : List (List ℕ) → Words → Type 0
+Spells (word ∷ name ∷ []) (Edit file) = (word ≡ codes "edit") × (name ≢ []) × (file ≡ 1)
+Spells words command = ⊥
+
+-- the index of the word that names the command's file
+abbrev pub file_of : Words → Option ℕ
+file_of (Edit file) = Some file
+
+-- the words are a command
+abbrev pub IsCommand : List (List ℕ) → Type 0
+IsCommand words = (command : Words) × Spells words command
+
+-- the words are a command, or become one with some more words after them
+pub record BeginsCommand (words : List (List ℕ)) : Type 0 where
+  pub more : List (List ℕ)
+  pub whole : IsCommand (words ++ more)
+
+-- The words are no command, and the longest front of them that begins one has this many words. This
+-- is the index of the first word that does not fit, or the number of words if one is missing
+pub record FirstMisfit (words : List (List ℕ)) (at : ℕ) : Type 0 where
+  pub no_command : ¬ (IsCommand words)
+  pub within : at ≤ length words
+  pub longest : (count : ℕ) → count ≤ length words
+      → BeginsCommand (take count words) ↔ (count ≤ at)

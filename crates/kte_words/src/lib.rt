@@ -1,0 +1,23 @@
+//! The words that the program is called with: which of them are a command, and if they are none,
+//! the first word that does not fit.
+//!
+//! [`parse`] reads the words. It is proved to give the command that they spell, and otherwise the
+//! length of the longest front of them that begins a command. `laws` proves that there is always
+//! one of the two and never both.
+//!
+//! - `word`: a word
+//! - `words`: the commands of the program
+//! - `parsing`: reading words as a command
+//! - `laws`: what follows from the definitions alone
+#![tactic(auto)]
+
+pub mod laws;
+mod parsing;
+#[cfg(test)]
+mod tests;
+mod word;
+mod words;
+
+pub use parsing::{BadWords, parse};
+pub use word::Word;
+pub use words::Words;

@@ -1,0 +1,23 @@
+ghost use Rattle.std.specs.Prelude.{◌≡◌};
+ghost use Rattle.kte_words.specs.Words.{file_of};
+
+/// A command of the program.
+#[derive(Clone, Copy, Debug, PartialEq, Eq)]
+pub enum Words {
+    /// `edit FILE`: edits the text of a file.
+    Edit {
+        /// The index, from 0, of the word that names the file.
+        file: u32,
+    },
+}
+
+impl Words {
+    /// Returns the index, from 0, of the word that names the command's file, if it has one.
+    pub fn file(&self) -> Option<u32>
+        ensures { result ≡ file_of self.now }
+    {
+        match self {
+            Words::Edit { file } => Some(*file),
+        }
+    }
+}
