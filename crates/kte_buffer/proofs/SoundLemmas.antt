@@ -27,8 +27,8 @@ use Rattle.kte_buffer.specs.declared.buffer.Buffer.TheInside.{Inside}
 use Rattle.kte_buffer.specs.Entries.{entry, touched, is_touched}
 use Rattle.kte_buffer.specs.Rows.{lines_in}
 use Rattle.kte_buffer.specs.Cursors.{StandWithin, cursor_after, shown, hung_in, carried}
-use Rattle.kte_buffer.specs.Buffer.{is_home, ColumnsFit}
-use Rattle.kte_buffer.specs.Inside.{Keeps, IsSound}
+use Rattle.kte_buffer.specs.Buffer.{Contents, IsReadyFor, is_home, ColumnsFit}
+use Rattle.kte_buffer.specs.Inside.{contents_of, Keeps, IsSound}
 use Rattle.kte_buffer.proofs.HungLemmas.{get-hung, get-hung_in}
 use Rattle.kte_buffer.proofs.CallerLemmas.{carried_within, touched_within}
 use Rattle.kte_buffer.proofs.ChangeLemmas.{size_of-after}
@@ -138,3 +138,14 @@ IsSound-after p old new sound none has made empty size cursors ready =
       ready = subst (λ ready. Keeps ready new) (sym ready)
           (subst (λ n. All (λ line. line < n) (touched (entry p text))) (sym lines) (touched_within p text fits));
     }
+
+one_entry : (a b : Entry) → ToApply a ≡ ToApply b → a ≡ b
+one_entry a b is = cc
+
+-- the entry that a buffer keeps is that of the primitive that it is ready for
+pub kept_entry : (b : Inside) (buffer : Contents) (p : Primitive) (e : Entry) → contents_of b ≡ buffer
+    → IsReadyFor p buffer → b.ready ≡ ToApply e → e ≡ entry p (lines_in b.rows.items)
+kept_entry b buffer p e seen ready kept =
+    one_entry e (entry p (lines_in b.rows.items))
+    (sym kept ∙ ap (λ (c : Contents). c.ready) seen ∙ ready.ready
+    ∙ ap (λ (c : Contents). ToApply (entry p c.text)) (sym seen))

@@ -115,7 +115,9 @@ impl Buffer {
         ensures ready { self.new.ready ≡ Ready.ToRehome result }
         ensures near { ListsNear self.new }
     {
-        let entry = rows::entry_of(self.rows.as_slice(), primitive);
+        let Ready::ToApply(entry) = self.ready else {
+            unreachable!()
+        };
         rows::apply(&mut self.rows, &mut self.fresh, primitive);
         self.size = rows::size_after(self.size, primitive);
         cursors::carry(&mut self.cursors, &mut self.near, &entry);

@@ -80,16 +80,17 @@ there (Some standing) some holds = holds standing refl
 was_there : (state : State) (document : Document) (id : ℕ) (standing : Standing) → IsOf state document → get document.ranges id ≡ Some standing → Some (range_of standing) ≡ get state.ranges id
 was_there state document id standing is_of found = sym (ap (option_map range_of) found) ∙ is_of.ranges id
 
-pub Replies-set : (state : State) (document later : Document) (id : ℕ) (span : Ends) (answer : Reply) → IsOf state document → (get document.ranges id ≡ None → ⊥) → ((loaded : List (List ℕ)) (trail : List Primitive) → CameBy loaded trail document → CameBy loaded trail later) → later.limit ≡ document.limit → ((standing : Standing) → get document.ranges id ≡ Some standing → later.ranges ≡ insert document.ranges id (reset_to document.text document.revision span standing)) → later.next ≡ document.next → answer ≡ told_of id (get later.ranges id) → Replies (react_command state (SetRange id span)) answer later
-Replies-set state document later id span answer is_of some came limit ranges next_id told =
+pub Replies-set : (state : State) (document later : Document) (id : ℕ) (span : Ends) (answer : Reply) → IsOf state document → (get document.ranges id ≡ None → ⊥) → ((loaded : List (List ℕ)) (trail : List Primitive) → CameBy loaded trail document → CameBy loaded trail later) → ((standing : Standing) → get document.ranges id ≡ Some standing → later ≡ record document { ranges = insert document.ranges id (reset_to document.text document.revision span standing) }) → answer ≡ told_of id (get later.ranges id) → Replies (react_command state (SetRange id span)) answer later
+Replies-set state document later id span answer is_of some came new told =
     there (get document.ranges id) some (λ standing found.
     let set = reset_to document.text document.revision span standing in
     let same : range_of set ≡ set_now state.editing span (range_of standing) =
     ap (λ (revision : ℕ). range_of (reset_to document.text revision span standing)) is_of.came.revision in
+    let is = new standing found in
     subst (λ (found : Option Range). Replies (set_range state id span found) answer later) (was_there state document id standing is_of found)
     (subst (λ (range : Range). Replies (placed state id range) answer later) same
     (Replies-placed state document later id set answer
-    is_of.ranges (came state.editing.loaded.text state.editing.trail is_of.came) (limit ∙ is_of.limit) (ranges standing found) (next_id ∙ is_of.next_id) told)))
+    is_of.ranges (came state.editing.loaded.text state.editing.trail is_of.came) (ap (λ d. d.limit) is ∙ is_of.limit) (ap (λ d. d.ranges) is) (ap (λ d. d.next) is ∙ is_of.next_id) told)))
 
 pub Replies-drop : (state : State) (document later : Document) (id : ℕ) → IsOf state document → (get document.ranges id ≡ None → ⊥) → ((loaded : List (List ℕ)) (trail : List Primitive) → CameBy loaded trail document → CameBy loaded trail later) → later.limit ≡ document.limit → later.ranges ≡ remove document.ranges id → later.next ≡ document.next → Replies (react_command state (DropRange id)) (reply.Dropped id) later
 Replies-drop state document later id is_of some came limit ranges next_id =

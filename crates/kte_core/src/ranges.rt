@@ -1,5 +1,6 @@
-ghost use Rattle.std.specs.Prelude.{◌≡◌, ◌^◌, ◌<◌, None, IfOk, IsOk, OnErr};
+ghost use Rattle.std.specs.Prelude.{◌≡◌, ◌^◌, ◌<◌, None, Some, length, IfOk, IsOk, OnErr};
 ghost use Rattle.std.specs.FinMap.{get};
+ghost use Rattle.kte_place.specs.Span.{made};
 ghost use Rattle.kte_doc.specs.Standings.{SpanIsInReach};
 ghost use Rattle.kte_core.specs.declared.request.Command.TheVariants.{MakeRange, SetRange, DropRange, ShowRange};
 ghost use Rattle.kte_core.specs.React.{react_command};
@@ -28,12 +29,15 @@ pub(crate) fn make(
     Ok(show(doc, id))
 }
 
-/// Sets a range to another span, and returns where it stands. A missing number takes no memory.
+/// Sets a range to another span, and returns where it stands. Neither a missing number nor a range
+/// that becomes invalid takes memory.
 pub(crate) fn set(doc: &mut Doc, id: u64, span: Span) -> Result<Reply, AllocError>
     requires { SpanIsInReach span }
     ensures replies { IfOk result (λ reply. (state : _) → IsOf state doc.old
         → Replies (react_command state (SetRange id span)) reply doc.new) }
     ensures refused { get doc.old.ranges id ≡ None → IsOk result }
+    ensures invalid { (range : _) → get doc.old.ranges id ≡ Some range
+        → made (length doc.old.text) span range.empty ≡ None → IsOk result }
     ensures err { OnErr result (doc.new ≡ doc.old) }
 {
     match doc.set_range(id, span) {

@@ -1,4 +1,5 @@
 pub mod Crossing
+pub mod Fields
 pub mod Growth
 pub mod Maps
 pub mod Trails
@@ -9,3 +10,4 @@ pub mod Settled
 pub mod Calls
 pub mod Looks
 pub mod Beginning
+pub mod Landing

@@ -27,7 +27,7 @@ entries_of-push : (trail : List Primitive) (p : Primitive) (text : List (List �
 entries_of-push [] p text = refl
 entries_of-push (first ∷ trail) p text = ap (λ es. entry first text ∷ es) (entries_of-push trail p (after first text))
 
-length-entries_of : (trail : List Primitive) (text : List (List ℕ)) → length (entries_of trail text) ≡ length trail
+pub length-entries_of : (trail : List Primitive) (text : List (List ℕ)) → length (entries_of trail text) ≡ length trail
 length-entries_of [] text = refl
 length-entries_of (first ∷ trail) text = ap (λ n. suc n) (length-entries_of trail (after first text))
 

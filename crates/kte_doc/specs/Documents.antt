@@ -1,5 +1,6 @@
--- A document: a text, its ranges, and how many primitives have changed it since it was loaded.
-use Rattle.std.specs.Prelude.{◌≡◌, ℕ, ◌≤◌, List, length, refl}
+-- A document: a text, its ranges, and how many primitives have changed it since it was loaded
+-- (KTextEditor's Document, MovingRange and revisions).
+use Rattle.std.specs.Prelude.{◌≡◌, ℕ, ◌≤◌, List, [], ◌∷◌, ◌++◌, length, refl}
 use Rattle.std.specs.Coded.{Coded, code_by, coded×, coded_list, coded_ℕ}
 use Rattle.kte_text.specs.Primitives.{after_all, FitInTurn}
 use Rattle.kte_text.specs.declared.primitive.Primitive.{Primitive}
@@ -11,29 +12,42 @@ use Rattle.kte_doc.specs.Trail.{stand}
 pub record Document : Type 0 where
   -- the present text
   pub text : List (List ℕ)
-  -- how many primitives have been made since loading
+  -- the number of primitives made since loading
   pub revision : ℕ
-  -- how many may be made
+  -- the greatest revision
   pub limit : ℕ
   -- the ranges by their numbers
   pub ranges : Standings
   -- the number that the next range gets
   pub next : ℕ
 
--- the range was made or last set at a revision of the trail, and stands where the trail puts it
-pub record StandsBy (loaded : List (List ℕ)) (trail : List Primitive) (standing : Standing) : Type 0 where
+-- the range was made or last set at a revision of the trail, and is where the trail puts it
+pub record StandsBy (loaded : List (List ℕ)) (trail : List Primitive) (standing : Standing)
+    : Type 0 where
   pub origin : standing.origin.revision ≤ length trail
   pub span : standing.span ≡ stand loaded trail standing.expand standing.empty standing.origin
 
--- The document came from the loaded text by the primitives of the trail, each of which fitted: that is its text, and every range
--- stands where the trail puts it
-pub record CameBy (loaded : List (List ℕ)) (trail : List Primitive) (document : Document) : Type 0 where
+-- The document came from the loaded text by the primitives of the trail, each of which fitted: its
+-- text is the one after them, and every range is where the trail puts it
+pub record CameBy (loaded : List (List ℕ)) (trail : List Primitive) (document : Document)
+    : Type 0 where
   pub fits : FitInTurn trail loaded
   pub text : document.text ≡ after_all trail loaded
   pub revision : document.revision ≡ length trail
   pub ranges : AllStandings (StandsBy loaded trail) document.ranges
   pub first : 1 ≤ document.next
   pub numbers : NumbersBelow document.next document.ranges
+
+-- a change of the document that makes no primitive
+abbrev pub KeepsTrail : Document → Document → Type 0
+KeepsTrail old new =
+    (loaded : List (List ℕ)) (trail : List Primitive) → CameBy loaded trail old → CameBy loaded trail new
+
+-- a change of the document that makes this one primitive
+abbrev pub ExtendsTrail : Primitive → Document → Document → Type 0
+ExtendsTrail primitive old new =
+    (loaded : List (List ℕ)) (trail : List Primitive) → CameBy loaded trail old
+    → CameBy loaded (trail ++ primitive ∷ []) new
 
 -- a document is stored as the tuple of its fields
 abbrev pub document_code : Coded Document

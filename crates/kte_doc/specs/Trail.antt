@@ -1,13 +1,13 @@
--- The trail of a document, all primitives since loading, and where a range stands after it. The revision is the length of the
--- trail (KTextEditor's moving interface, whose revisions count in the same way).
-use Rattle.std.specs.Prelude.{ℕ, List, [], ◌∷◌, length, take, drop, fold, Option}
-use Rattle.kte_text.specs.Primitives.{after, after_all}
+-- The trail of a document, all primitives since loading, and where a range is after it. The revision
+-- is the length of the trail (KTextEditor's moving interface, whose revisions count in the same way).
+use Rattle.std.specs.Prelude.{◌≡◌, ◌≤◌, ◌&&◌, ℕ, List, [], ◌∷◌, length, take, drop, fold, nat_lt, Option, None, Some, if◌then◌else◌}
+use Rattle.kte_text.specs.Primitives.{after, after_all, FitInTurn}
 use Rattle.kte_text.specs.declared.primitive.Primitive.{Primitive}
 use Rattle.kte_place.specs.declared.span.Expand.{Expand}
 use Rattle.kte_place.specs.declared.span.Empty.{Empty}
 use Rattle.kte_place.specs.declared.entry.Entry.{Entry}
 use Rattle.kte_place.specs.Ends.{Ends}
-use Rattle.kte_place.specs.Span.{made, carry_span}
+use Rattle.kte_place.specs.Span.{made, settle, carry_span}
 use Rattle.kte_buffer.specs.Entries.{entry}
 use Rattle.kte_ranges.specs.declared.info.Origin.{Origin}
 
@@ -24,8 +24,30 @@ entries_of (primitive ∷ trail) text = entry primitive text ∷ entries_of trai
 abbrev pub carry_all : List Entry → Option Ends → Expand → Empty → Option Ends
 carry_all entries span expand empty = fold (λ span entry. carry_span entry span expand empty) span entries
 
--- Where a range stands after the trail: made in the text at its origin's revision, and then carried over all later entries
+-- Where a range is after the trail: made in the text at its origin's revision, and then carried over
+-- all later entries
 abbrev pub stand : List (List ℕ) → List Primitive → Expand → Empty → Origin → Option Ends
 stand loaded trail expand empty origin =
     carry_all (drop origin.revision (entries_of trail loaded))
     (made (length (text_at loaded trail origin.revision)) origin.span empty) expand empty
+
+-- a span whose lines are in a text of so many lines, and no other
+abbrev pub in_text : ℕ → Option Ends → Option Ends
+in_text lines None = None
+in_text lines (Some span) =
+    if nat_lt span.start.line lines && nat_lt span.end.line lines then Some span else None
+
+-- Where a span lands that was read at an earlier revision, by the entries since then alone: settled,
+-- carried over each and settled after each, and invalid if a line of it is not in the present text,
+-- which has so many lines. A law says that a range made at that revision is just there
+abbrev pub landed : List Entry → ℕ → Ends → Expand → Empty → Option Ends
+landed entries lines span expand empty =
+    in_text lines (carry_all entries (settle span.start span.end empty) expand empty)
+
+-- landing from a revision and a range that was made at it agree
+abbrev pub LandsWhereItStands : Type 0
+LandsWhereItStands =
+    (loaded : List (List ℕ)) (trail : List Primitive) (revision : ℕ) (span : Ends) (expand : Expand)
+    (empty : Empty) → FitInTurn trail loaded → revision ≤ length trail
+    → landed (drop revision (entries_of trail loaded)) (length (after_all trail loaded)) span expand empty
+    ≡ stand loaded trail expand empty (record { revision = revision; span = span })

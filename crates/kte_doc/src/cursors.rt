@@ -1,5 +1,5 @@
 //! The two cursors of a range.
-ghost use Rattle.std.specs.Prelude.{◌≡◌, ◌≢◌, ℕ, ◌<◌, length, None, Some, IfOk, OnErr, IsTrue, IsSome, if◌then◌else◌};
+ghost use Rattle.std.specs.Prelude.{◌≡◌, ◌≢◌, ℕ, ◌<◌, length, None, Some, IfOk, IsOk, OnErr, IsTrue, IsSome, if◌then◌else◌};
 ghost use Rattle.std.specs.FinMap as map;
 ghost use Rattle.kte_place.specs.Span.{made};
 ghost use Rattle.kte_ranges.specs.Cursors.{is_among};
@@ -11,8 +11,8 @@ use kte_place::{Cursors, Empty, Expand, Span, settle};
 use kte_text::Lines;
 use std::alloc::AllocError;
 
-/// Hangs the cursors of a range that is made at a span of the buffer's text; none where it is invalid. After an error the
-/// cursors are as they were.
+/// Hangs the cursors of a range that is made at a span of the buffer's text; none if it is invalid,
+/// which takes no memory. After an error the cursors are as they were.
 pub(crate) fn hang(
     buffer: &mut Buffer,
     span: Span,
@@ -23,6 +23,7 @@ pub(crate) fn hang(
     ensures cursors { IfOk result (λ cursors. HangsNew buffer.old.hung buffer.new.hung expand cursors
         (made (length buffer.old.text) span empty)) }
     ensures text { buffer.new.text ≡ buffer.old.text }
+    ensures invalid { made (length buffer.old.text) span empty ≡ None → IsOk result }
     ensures err { OnErr result (buffer.new.hung ≡ buffer.old.hung) }
 {
     let lines = buffer.lines();
@@ -54,7 +55,7 @@ fn hang_both(buffer: &mut Buffer, span: Span, expand: Expand) -> Result<(u64, u6
     }
 }
 
-/// Takes the two cursors of a range out, if it has any.
+/// Takes out the two cursors of a range, if it has any.
 pub(crate) fn unhang(buffer: &mut Buffer, cursors: Option<(u64, u64)>)
     requires hang { (n : ℕ) → IsTrue (is_among cursors n) → IsSome (map.get buffer.old.hung n) }
     requires two { (c : _) → cursors ≡ Some c → c.0 ≢ c.1 }

@@ -1,12 +1,11 @@
-ghost use Rattle.std.specs.Prelude.{◌≡◌, ℕ, ◌+◌, ◌^◌, ◌<◌, ◌≤◌, [], ◌∷◌, ◌++◌, false, length, None, Some, Err, IfSome, IfOk, OnOk, OnErr, IsErrOf};
+ghost use Rattle.std.specs.Prelude.{◌≡◌, ℕ, ◌+◌, ◌^◌, ◌<◌, ◌≤◌, [], ◌∷◌, ◌++◌, false, length, None, Some, Err, IfSome, IfOk, IsOk, OnOk, OnErr, IsErrOf};
 ghost use Rattle.std.specs.Option.{ok_or, option_map};
 ghost use Rattle.std.specs.List.Sorted.{IsStrictlyIncreasing};
 ghost use Rattle.std.specs.FinMap as map;
 ghost use Rattle.kte_text.specs.Primitives.{HasEnd, is_empty, misfit, after};
+ghost use Rattle.kte_place.specs.Span.{made};
 ghost use Rattle.kte_buffer.specs.Entries.{entry};
 ghost use Rattle.kte_ranges.specs.Table.{NumbersBelow};
-ghost use Rattle.kte_doc.specs.Standings.{SpanIsInReach, Tells, new_range, reset_to, moved_over};
-ghost use Rattle.kte_doc.specs.Documents.{CameBy};
 
 use crate::cursors::{hang, unhang};
 use crate::fault::{DocFault, SetFault};
@@ -17,18 +16,18 @@ use kte_text::{Lines, Primitive, Text};
 use std::alloc::{AllocError, Global};
 use std::marker::Model;
 
-/// A document.
+/// A document: a text that primitives change, and the ranges that move with it.
 ///
-/// Contracts see it as its text, its ranges by their numbers, the number that the next range gets, how many primitives
-/// have been made since loading, and how many may be. `CameBy` says that it came from a loaded text by a list of
-/// primitives: then each range stands where they put it. Every call keeps that.
+/// Contracts see it as its text, its revision, which is the number of primitives made since loading,
+/// the greatest revision, its ranges by their numbers, and the number that the next range gets.
+/// `CameBy` says that it came from a loaded text by a list of primitives, the trail: then each range
+/// is where they put it. Every call keeps that.
 #[derive(Drop)]
 pub struct Doc {
     buffer: Buffer,
     ranges: RangeTable,
-    // How many primitives have been made.
     revision: u64,
-    // How many may be made.
+    // The greatest revision.
     limit: u64,
 }
 
@@ -47,14 +46,20 @@ impl Model for Doc {
 }
 
 impl Doc {
-    /// The document of a loaded text, at revision 0 and without ranges. At most `limit` primitives can be made.
+    ghost use Rattle.kte_doc.specs.Documents.{CameBy, KeepsTrail, ExtendsTrail};
+    ghost use Rattle.kte_doc.specs.Standings.{SpanIsInReach, Tells, new_range, reset_to, moved_over};
+
+    /// Returns the document of a loaded text, at revision 0 and without ranges, whose revision can
+    /// rise to `limit`. Fails if out of memory.
     pub fn new(alloc: Global, text: Text, limit: u64) -> Result<Doc, AllocError>
         requires { limit ≤ 2 ^ 31 }
-        ensures text { IfOk result (λ doc. doc.text ≡ text) }
-        ensures revision { IfOk result (λ doc. doc.revision ≡ 0) }
-        ensures limit { IfOk result (λ doc. doc.limit ≡ limit) }
-        ensures ranges { IfOk result (λ doc. doc.ranges ≡ map.empty) }
-        ensures next { IfOk result (λ doc. doc.next ≡ 1) }
+        ensures ok { IfOk result (λ doc. doc ≡ record {
+          text = text;
+          revision = 0;
+          limit = limit;
+          ranges = map.empty;
+          next = 1;
+        }) }
         ensures came { IfOk result (CameBy text []) }
     {
         Ok(Doc {
@@ -65,24 +70,28 @@ impl Doc {
         })
     }
 
-    /// Makes a primitive, which is one revision more, and answers its entry. Every range is carried over it and settled.
-    /// A misfit is answered before a full count of revisions, and both before want of memory. After an error nothing has
-    /// changed.
+    /// Makes a primitive, as KTextEditor's Document does, and returns its entry. The revision rises
+    /// by one, and every range is carried over the entry and settled.
+    ///
+    /// Fails if the primitive does not fit the text, if the revision is the greatest, or if out of
+    /// memory, with the first of these causes. After an error nothing has changed.
     pub fn primitive(&mut self, primitive: &Primitive) -> Result<Entry, DocFault>
         requires end { HasEnd primitive.now }
         requires some { is_empty primitive.now ≡ false }
+        ensures entry { IfOk result (λ made. made ≡ entry primitive.now self.old.text) }
+        ensures ok { OnOk result (self.new ≡ record self.old {
+          text = after primitive.now self.old.text;
+          revision = self.old.revision + 1;
+          ranges = self.new.ranges;
+        }) }
+        ensures ranges { OnOk result ((id : ℕ) → map.get self.new.ranges id
+            ≡ option_map (moved_over (entry primitive.now self.old.text))
+            (map.get self.old.ranges id)) }
+        ensures trail { OnOk result (ExtendsTrail primitive.now self.old self.new) }
+
+        // Each cause brings its error, whether there is memory or not, and only its error.
         ensures fits { OnOk result (misfit primitive.now self.old.text ≡ None) }
         ensures room { OnOk result (self.old.revision < self.old.limit) }
-        ensures entry { IfOk result (λ made. made ≡ entry primitive.now self.old.text) }
-        ensures text { OnOk result (self.new.text ≡ after primitive.now self.old.text) }
-        ensures revision { OnOk result (self.new.revision ≡ self.old.revision + 1) }
-        ensures limit { self.new.limit ≡ self.old.limit }
-        ensures ranges { OnOk result ((id : ℕ) → map.get self.new.ranges id
-            ≡ option_map (moved_over (entry primitive.now self.old.text)) (map.get self.old.ranges id)) }
-        ensures next { self.new.next ≡ self.old.next }
-        ensures came { (loaded trail : _) → CameBy loaded trail self.old
-            → OnOk result (CameBy loaded (trail ++ primitive.now ∷ []) self.new) }
-
         ensures misfit { (m : _) → IsErrOf result (DocFault.Misfit m)
             → misfit primitive.now self.old.text ≡ Some m }
         ensures full { (r : _) → IsErrOf result (DocFault.RevisionsFull r)
@@ -111,9 +120,9 @@ impl Doc {
         Ok(entry)
     }
 
-    /// Makes a range at a span of the present text, and answers its number. It is invalid at once where a line of the span
-    /// is not in the text, or where it is empty and may not be. After an error nothing has changed, the next number
-    /// included.
+    /// Makes a range at a span of the present text, and returns its number. It is invalid at once if
+    /// a line of the span is not in the text, or if the span is empty and the range may not be.
+    /// Fails if out of memory; then nothing has changed, the next number included.
     pub fn make_range(
         &mut self,
         span: Span,
@@ -124,13 +133,12 @@ impl Doc {
         requires span { SpanIsInReach span }
         requires number { self.old.next < 2 ^ 63 }
         ensures id { IfOk result (λ id. id ≡ self.old.next) }
-        ensures ranges { OnOk result (self.new.ranges ≡ map.insert self.old.ranges self.old.next
-            (new_range self.old.text self.old.revision span expand empty kind)) }
-        ensures next { OnOk result (self.new.next ≡ self.old.next + 1) }
-        ensures text { self.new.text ≡ self.old.text }
-        ensures revision { self.new.revision ≡ self.old.revision }
-        ensures limit { self.new.limit ≡ self.old.limit }
-        ensures came { (loaded trail : _) → CameBy loaded trail self.old → CameBy loaded trail self.new }
+        ensures ok { OnOk result (self.new ≡ record self.old {
+          ranges = map.insert self.old.ranges self.old.next
+              (new_range self.old.text self.old.revision span expand empty kind);
+          next = self.old.next + 1;
+        }) }
+        ensures trail { KeepsTrail self.old self.new }
         ensures err { OnErr result (self.new ≡ self.old) }
     {
         self.ranges.reserve(1)?;
@@ -149,18 +157,19 @@ impl Doc {
         Ok(self.ranges.make(info))
     }
 
-    /// Sets a range to a span of the present text: it stands there as if it were made now, and keeps what it does at a
-    /// change and whose it is. After an error nothing has changed.
+    /// Sets a range to a span of the present text, as if it were made there now. Whether it expands
+    /// and may be empty, and its kind, are unchanged. Fails if there is no such range, or if out of
+    /// memory, which no range that becomes invalid needs. After an error nothing has changed.
     pub fn set_range(&mut self, id: u64, span: Span) -> Result<(), SetFault>
         requires { SpanIsInReach span }
-        ensures ranges { OnOk result ((range : _) → map.get self.old.ranges id ≡ Some range
-            → self.new.ranges ≡ map.insert self.old.ranges id
-            (reset_to self.old.text self.old.revision span range)) }
-        ensures next { self.new.next ≡ self.old.next }
-        ensures text { self.new.text ≡ self.old.text }
-        ensures revision { self.new.revision ≡ self.old.revision }
-        ensures limit { self.new.limit ≡ self.old.limit }
-        ensures came { (loaded trail : _) → CameBy loaded trail self.old → CameBy loaded trail self.new }
+        ensures ok { OnOk result ((range : _) → map.get self.old.ranges id ≡ Some range
+            → self.new ≡ record self.old {
+              ranges = map.insert self.old.ranges id
+                  (reset_to self.old.text self.old.revision span range);
+            }) }
+        ensures trail { KeepsTrail self.old self.new }
+        ensures invalid { (range : _) → map.get self.old.ranges id ≡ Some range
+            → made (length self.old.text) span range.empty ≡ None → IsOk result }
 
         ensures none { map.get self.old.ranges id ≡ None → result ≡ Err (SetFault.NoRange id) }
         ensures no_range { (n : _) → IsErrOf result (SetFault.NoRange n)
@@ -182,7 +191,8 @@ impl Doc {
         Ok(())
     }
 
-    /// Where a range stands. `None` is an invalid range. Its columns may be beyond the ends of their lines.
+    /// Returns where a range is; `None` is an invalid range. Its lines are in the text, its columns
+    /// may be beyond the ends of their lines. Fails if there is no such range.
     pub fn range(&self, id: u64) -> Result<Option<Span>, NoRange>
         ensures span { result ≡ ok_or (option_map (λ range. range.span) (map.get self.now.ranges id))
             (record { id = id }) }
@@ -199,16 +209,13 @@ impl Doc {
         Ok(Some(Span { start, end }))
     }
 
-    /// Takes a range out. Its number is not used again. After an error nothing has changed.
+    /// Removes a range. Its number is not used again. Fails if there is no such range.
     pub fn drop_range(&mut self, id: u64) -> Result<(), NoRange>
         ensures found { result ≡ ok_or (option_map (λ range. tt) (map.get self.old.ranges id))
             (record { id = id }) }
-        ensures ranges { OnOk result (self.new.ranges ≡ map.remove self.old.ranges id) }
-        ensures next { self.new.next ≡ self.old.next }
-        ensures text { self.new.text ≡ self.old.text }
-        ensures revision { self.new.revision ≡ self.old.revision }
-        ensures limit { self.new.limit ≡ self.old.limit }
-        ensures came { (loaded trail : _) → CameBy loaded trail self.old → CameBy loaded trail self.new }
+        ensures ok { OnOk result
+            (self.new ≡ record self.old { ranges = map.remove self.old.ranges id }) }
+        ensures trail { KeepsTrail self.old self.new }
         ensures err { OnErr result (self.new ≡ self.old) }
     {
         let cursors = self.ranges.drop_range(id)?;
@@ -216,14 +223,15 @@ impl Doc {
         Ok(())
     }
 
-    /// What a range is. Its cursors are there exactly where it is not invalid; their numbers have no meaning outside.
+    /// Returns what a range is, if there is one of this number. It has cursors exactly if it is not
+    /// invalid; their numbers have no meaning to the caller.
     pub fn info(&self, id: u64) -> Option<RangeInfo>
         ensures { Tells (map.get self.now.ranges id) result }
     {
         self.ranges.get(id)
     }
 
-    /// The numbers of the ranges, rising.
+    /// Returns the numbers of the ranges, rising. Fails if out of memory.
     pub fn range_ids(&self, alloc: Global) -> Result<Vec<u64>, AllocError>
         ensures ids { IfOk result (λ ids. ids.items ≡ map.keys self.now.ranges) }
         ensures rising { IfOk result (λ ids. IsStrictlyIncreasing ids.items) }
@@ -231,7 +239,7 @@ impl Doc {
         self.ranges.ids(alloc)
     }
 
-    /// The number that the next range gets. It is above every number in use.
+    /// Returns the number that the next range gets, which is above every number in use.
     pub fn next_id(&self) -> u64
         ensures next { result ≡ self.now.next }
         ensures first { 1 ≤ self.now.next }
@@ -241,7 +249,7 @@ impl Doc {
         self.ranges.next_id()
     }
 
-    /// How many primitives have been made.
+    /// Returns the revision: the number of primitives made since loading.
     pub fn revision(&self) -> u64
         ensures revision { result ≡ self.now.revision }
         ensures within { self.now.revision ≤ self.now.limit }
@@ -250,7 +258,7 @@ impl Doc {
         self.revision
     }
 
-    /// A copy of the present text.
+    /// Returns a copy of the present text. Fails if out of memory.
     pub fn copy_text(&self, alloc: Global) -> Result<Text, AllocError>
         ensures { IfOk result (λ text. text ≡ self.now.text) }
     {

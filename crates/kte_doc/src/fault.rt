@@ -5,12 +5,15 @@ use thiserror::Error;
 /// Why a document refuses a primitive.
 #[derive(Clone, Copy, Debug, PartialEq, Eq, Drop, Error)]
 pub enum DocFault {
-    /// It does not fit the text.
+    /// The primitive does not fit the text.
     #[error("the primitive does not fit: {0}")]
     Misfit(Misfit),
-    /// As many primitives as may be made have been made: that is the present revision.
+    /// The revision is the greatest.
     #[error("no revision after {revision}")]
-    RevisionsFull { revision: u64 },
+    RevisionsFull {
+        /// The present revision.
+        revision: u64,
+    },
     /// Memory ran out.
     #[error("out of memory")]
     NoMemory,
@@ -19,9 +22,12 @@ pub enum DocFault {
 /// Why a document refuses to set a range.
 #[derive(Clone, Copy, Debug, PartialEq, Eq, Drop, Error)]
 pub enum SetFault {
-    /// There is no range of this number.
+    /// There is no such range.
     #[error("no range {id}")]
-    NoRange { id: u64 },
+    NoRange {
+        /// The number for which there is none.
+        id: u64,
+    },
     /// Memory ran out.
     #[error("out of memory")]
     NoMemory,

@@ -1,16 +1,17 @@
-//! A document: a text that primitives change, the ranges that move with it, and the count of its revisions.
+//! A document: a text that primitives change, the ranges that move with it, and its revision.
 //!
-//! At every moment each range stands where the primitives made since loading put it: it was made or last set in the text
-//! at one revision, and was then carried over every later primitive and settled after each, by the rules of `kte_place`.
-//! [`Doc::primitive`] makes room in all layers first, and then cannot fail. Whatever is refused, or wants
-//! memory, has changed nothing.
+//! After every call each range is where the primitives made since loading put it: made or last set in
+//! the text at one revision, then carried over every later primitive and settled after each, by the
+//! rules of `kte_place`. [`Doc::primitive`] makes room in all layers first, and then cannot fail. A call
+//! that is refused or runs out of memory changes nothing.
 //!
 //! - `document`: the document and its calls
-//! - `cursors`: the two cursors of a range, hung and taken out
+//! - `cursors`: the two cursors of a range
 //! - `fault`: why a document refuses
 //! - `examples`: worked examples of the definitions
+//! - `laws`: what follows from the definitions alone
 //!
-//! `Documents` in specs/ has what a document is seen as, and `Trail` where its ranges stand.
+//! In specs/ `Documents` has what contracts see of a document, and `Trail` where its ranges are.
 #![tactic(auto)]
 
 pub use document::Doc;
@@ -20,5 +21,6 @@ mod cursors;
 mod document;
 pub mod examples;
 mod fault;
+pub mod laws;
 #[cfg(test)]
 mod tests;

@@ -5,4 +5,4 @@ pub returns-in-Ok-clause-replies : goal.returns-in-Ok-clause-replies
 returns-in-Ok-clause-replies c = λ state is_of.
     Replies-set state c.args.doc.now c.set_range.new.self c.args.id c.args.span c.show.result is_of
     (λ none. let refused = c.in-Ok.ensures.none none in cc)
-    c.set_range.ensures.came c.set_range.ensures.limit c.in-Ok.ensures.ranges c.set_range.ensures.next c.show.ensures.told
+    c.set_range.ensures.trail c.in-Ok.ensures.ok c.show.ensures.told

@@ -11,13 +11,8 @@ use Rattle.kte_buffer.specs.Rows.{lines_in}
 use Rattle.kte_buffer.specs.Cursors.{StandWithin, cursor_after}
 use Rattle.kte_buffer.proofs.CallerLemmas.{EntryFits-entry}
 use Rattle.kte_buffer.proofs.ChangeLemmas.{given-fits, taken_by-fits}
-use Rattle.kte_buffer.proofs.SoundLemmas.{PlaceFits-hung, IsSound-after, get-carried, get-listed}
+use Rattle.kte_buffer.proofs.SoundLemmas.{PlaceFits-hung, IsSound-after, get-carried, get-listed, kept_entry}
 use Rattle.kte_buffer.proofs.buffer.Buffer.apply.Goals as goal
-
-pub entry_of-entry-requires : goal.entry_of-entry-requires
-entry_of-entry-requires c =
-    subst (FitsText c.args.primitive.now) (sym (ap lines_in c.as_slice.ensures.value))
-    (FitsText-from_misfit _ _ (ap (λ b. misfit c.args.primitive.now b.text) c.self.view_is ∙ c.requires.ready.fits))
 
 pub apply-requires-clause-fits : goal.apply-requires-clause-fits
 apply-requires-clause-fits c =
@@ -36,8 +31,8 @@ size_after-self-inside-requires-clause-there c =
 pub carry-requires-clause-entry : goal.carry-requires-clause-entry
 carry-requires-clause-entry c =
     let text = lines_in c.self.inside.rows.items in
-    let is : c.entry_of-entry.result ≡ entry c.args.primitive.now text =
-    c.entry_of-entry.ensures ∙ ap (λ rows. entry c.args.primitive.now (lines_in rows)) c.as_slice.ensures.value in
+    let is : c.in-ToApply.entry ≡ entry c.args.primitive.now text =
+    kept_entry c.self.inside c.args.self.now c.args.primitive.now c.in-ToApply.entry c.self.view_is c.requires.ready c.in-ToApply.is in
     let fits = FitsText-from_misfit c.args.primitive.now text (ap (λ b. misfit c.args.primitive.now b.text) c.self.view_is ∙ c.requires.ready.fits) in
     subst EntryFits (sym is) (EntryFits-entry c.args.primitive.now text c.self.invariant.text fits)
 
@@ -51,8 +46,8 @@ carry-requires-clause-places c =
 pub invariant_of-self : goal.invariant_of-self
 invariant_of-self c =
     let text = lines_in c.self.inside.rows.items in
-    let is : c.entry_of-entry.result ≡ entry c.args.primitive.now text =
-    c.entry_of-entry.ensures ∙ ap (λ rows. entry c.args.primitive.now (lines_in rows)) c.as_slice.ensures.value in
+    let is : c.in-ToApply.entry ≡ entry c.args.primitive.now text =
+    kept_entry c.self.inside c.args.self.now c.args.primitive.now c.in-ToApply.entry c.self.view_is c.requires.ready c.in-ToApply.is in
     IsSound-after c.args.primitive.now c.self.inside _ c.self.invariant
     (ap (λ b. misfit c.args.primitive.now b.text) c.self.view_is ∙ c.requires.ready.fits)
     c.apply.ensures.line c.apply.ensures.lines c.apply.ensures.empty c.size_after-self-inside.ensures
@@ -61,7 +56,7 @@ invariant_of-self c =
 
 pub returns-clause-hung : goal.returns-clause-hung
 returns-clause-hung c =
-    get-carried c.entry_of-entry.result c.self.inside.cursors c.carry.new.cursors c.args.self.now.hung (ap (λ b. b.hung) c.self.view_is) c.carry.ensures.carried
+    get-carried c.in-ToApply.entry c.self.inside.cursors c.carry.new.cursors c.args.self.now.hung (ap (λ b. b.hung) c.self.view_is) c.carry.ensures.carried
 
 pub returns-clause-near : goal.returns-clause-near
-returns-clause-near c = get-listed c.entry_of-entry.result c.carry.new.cursors c.carry.new.near.items c.carry.ensures.near
+returns-clause-near c = get-listed c.in-ToApply.entry c.carry.new.cursors c.carry.new.near.items c.carry.ensures.near

@@ -3,6 +3,7 @@ use Rattle.std.specs.FinMap.{insert}
 use Rattle.kte_ranges.specs.declared.info.RangeInfo.{RangeInfo}
 use Rattle.kte_doc.specs.Standings.{new_range}
 use Rattle.kte_doc.specs.Inside.{standings_of, farthest_at, CursorsFit}
+use Rattle.kte_doc.proofs.Fields.{by_fields}
 use Rattle.kte_doc.proofs.Calls.{IsPut-make}
 use Rattle.kte_doc.proofs.Trails.{CameBy-make}
 use Rattle.kte_doc.proofs.document.Doc.make_range.Goals as goal
@@ -25,8 +26,8 @@ invariant_of-self-2 c =
           (sym c.hang.ensures.text) put.fits;
     }
 
-ranges : goal.returns-clause-ranges
-ranges c =
+ok : goal.returns-clause-ok
+ok c =
     let info : RangeInfo = record {
       expand = c.args.expand;
       empty = c.args.empty;
@@ -37,17 +38,17 @@ ranges c =
     let put = IsPut-make _ _ _ _ _ _ (farthest_at c.self.inside.revision) _ info c.args.span c.self.invariant.cursors c.reserve.ensures.ranges
     c.make.ensures.unused c.make.ensures.ranges c.requires.span (omega arith) c.in_ok-cursors.ensures.cursors in
     let new = new_range c.self.inside.buffer.text c.self.inside.revision c.args.span c.args.expand c.args.empty c.args.kind in
-    put.seen
+    by_fields _ _ (c.hang.ensures.text ∙ ap (λ d. d.text) c.self.view_is) (ap (λ d. d.revision) c.self.view_is) (ap (λ d. d.limit) c.self.view_is)
+    (put.seen
     ∙ ap (λ next. insert (standings_of c.self.inside.buffer.hung c.self.inside.ranges.ranges) next new) c.reserve.ensures.next
-    ∙ ap (λ d. insert d.ranges d.next (new_range d.text d.revision c.args.span c.args.expand c.args.empty c.args.kind)) c.self.view_is
-
-pub returns-clause-ranges : goal.returns-clause-ranges
-returns-clause-ranges c = ranges c
-
-pub returns-clause-came : goal.returns-clause-came
-returns-clause-came c loaded trail came =
-    CameBy-make loaded trail c.args.self.now _ c.args.span c.args.expand c.args.empty c.args.kind came
-    (c.hang.ensures.text ∙ ap (λ d. d.text) c.self.view_is)
-    (ap (λ d. d.revision) c.self.view_is)
+    ∙ ap (λ d. insert d.ranges d.next (new_range d.text d.revision c.args.span c.args.expand c.args.empty c.args.kind)) c.self.view_is)
     (c.make.ensures.next ∙ ap (λ n. n + 1) (c.reserve.ensures.next ∙ ap (λ d. d.next) c.self.view_is))
-    (ranges c)
+
+pub returns-clause-ok : goal.returns-clause-ok
+returns-clause-ok c = ok c
+
+pub returns-clause-trail : goal.returns-clause-trail
+returns-clause-trail c loaded trail came =
+    let new = ok c in
+    CameBy-make loaded trail c.args.self.now _ c.args.span c.args.expand c.args.empty c.args.kind came
+    (ap (λ d. d.text) new) (ap (λ d. d.revision) new) (ap (λ d. d.next) new) (ap (λ d. d.ranges) new)

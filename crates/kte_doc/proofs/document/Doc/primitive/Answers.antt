@@ -1,4 +1,4 @@
-use Rattle.std.proofs.Common.{◌≡◌, ℕ, ◌+◌, List, length, None, ◌∙◌, ap, sym, subst, arith}
+use Rattle.std.proofs.Common.{◌≡◌, ℕ, ◌+◌, List, length, None, ◌∙◌, ap, refl, sym, subst, arith}
 use Rattle.std.specs.Option.{option_map}
 use Rattle.std.specs.FinMap.{get}
 use Rattle.kte_text.specs.Primitives.{misfit, after}
@@ -8,6 +8,7 @@ use Rattle.kte_buffer.specs.Entries.{entry}
 use Rattle.kte_ranges.specs.Cursors.{StartsAreReady}
 use Rattle.kte_doc.specs.Standings.{moved_over}
 use Rattle.kte_doc.specs.Inside.{standings_of, farthest_at, CursorsFit}
+use Rattle.kte_doc.proofs.Fields.{by_fields}
 use Rattle.kte_doc.proofs.Settled.{Carries-primitive, columns_fit, hang_now, ready_now, CursorsFit-settled, ranges_moved}
 use Rattle.kte_doc.proofs.Trails.{CameBy-primitive}
 use Rattle.kte_doc.proofs.document.Doc.primitive.Goals as goal
@@ -61,12 +62,20 @@ ranges c id =
 pub returns-clause-ranges : goal.returns-clause-ranges
 returns-clause-ranges c = ranges c
 
-pub returns-clause-came : goal.returns-clause-came
-returns-clause-came c loaded trail came =
-    CameBy-primitive loaded trail c.args.primitive.now c.args.self.now _ came
-    (subst (λ d. misfit c.args.primitive.now d.text ≡ None) c.self.view_is (sym c.in_default.ensures)) c.requires.some
+ok : goal.returns-clause-ok
+ok c =
+    by_fields _ _
     (c.settle.ensures.rest ∙ c.apply-entry.ensures.text ∙ ap (after c.args.primitive.now) (ap (λ b. b.text) c.reserve.ensures.kept)
     ∙ ap (λ d. after c.args.primitive.now d.text) c.self.view_is)
-    (ap (λ d. d.revision + 1) c.self.view_is)
+    (ap (λ d. d.revision + 1) c.self.view_is) (ap (λ d. d.limit) c.self.view_is) refl
     (c.settle.ensures.next ∙ ap (λ d. d.next) c.self.view_is)
-    (ranges c)
+
+pub returns-clause-ok : goal.returns-clause-ok
+returns-clause-ok c = ok c
+
+pub returns-clause-trail : goal.returns-clause-trail
+returns-clause-trail c loaded trail came =
+    let new = ok c in
+    CameBy-primitive loaded trail c.args.primitive.now c.args.self.now _ came
+    (subst (λ d. misfit c.args.primitive.now d.text ≡ None) c.self.view_is (sym c.in_default.ensures)) c.requires.some
+    (ap (λ d. d.text) new) (ap (λ d. d.revision) new) (ap (λ d. d.next) new) (ranges c)

@@ -1,9 +1,12 @@
 use Rattle.std.proofs.Common.{◌≡◌, ℕ, List, length, ◌∙◌, ap, sym, subst, arith}
 use Rattle.std.specs.FinMap.{insert}
+use Rattle.kte_place.specs.declared.span.Empty.{Empty}
+use Rattle.kte_place.specs.Span.{made}
 use Rattle.kte_ranges.specs.declared.info.RangeInfo.{RangeInfo}
 use Rattle.kte_ranges.specs.Table.{reset}
 use Rattle.kte_doc.specs.Standings.{Standing, reset_to}
 use Rattle.kte_doc.specs.Inside.{standing_of, standings_of, farthest_at, CursorsFit}
+use Rattle.kte_doc.proofs.Fields.{by_fields}
 use Rattle.kte_doc.proofs.Calls.{hangs_of, still_hangs, IsPut-set}
 use Rattle.kte_doc.proofs.Looks.{seen_none, seen_is, seen_same}
 use Rattle.kte_doc.proofs.Trails.{CameBy-set}
@@ -36,33 +39,47 @@ invariant_of-self-2 c =
           (sym (c.unhang.ensures.text ∙ c.in-Ok.ensures.text)) put.fits;
     }
 
-ranges : goal.returns-clause-ranges
-ranges c range is =
+ok : goal.returns-clause-ok
+ok c range is =
     let there = sym c.get.ensures ∙ c.in-Some.is in
     let info : RangeInfo = reset c.in-Some.info (record { revision = c.self.inside.revision; span = c.args.span }) c.in-Ok.cursors in
     let put = IsPut-set _ _ _ _ _ _ (farthest_at c.self.inside.revision) c.args.id c.in-Some.info info c.args.span c.self.invariant.cursors there
     (c.set.ensures.set c.in-Some.info there) c.unhang.ensures.hung c.requires (omega arith) c.in-Ok.ensures.cursors in
     let same : standing_of c.self.inside.buffer.hung c.in-Some.info ≡ range =
     seen_same _ _ _ c.args.id c.in-Some.info range (ap (λ d. d.ranges) c.self.view_is) there is in
-    put.seen
+    by_fields _ _ (c.unhang.ensures.text ∙ c.in-Ok.ensures.text ∙ ap (λ d. d.text) c.self.view_is)
+    (ap (λ d. d.revision) c.self.view_is) (ap (λ d. d.limit) c.self.view_is)
+    (put.seen
     ∙ ap (λ (r : Standing). insert (standings_of c.self.inside.buffer.hung c.self.inside.ranges.ranges) c.args.id
     (reset_to c.self.inside.buffer.text c.self.inside.revision c.args.span r)) same
-    ∙ ap (λ d. insert d.ranges c.args.id (reset_to d.text d.revision c.args.span range)) c.self.view_is
+    ∙ ap (λ d. insert d.ranges c.args.id (reset_to d.text d.revision c.args.span range)) c.self.view_is)
+    (c.set.ensures.next ∙ ap (λ d. d.next) c.self.view_is)
 
-pub returns-clause-ranges : goal.returns-clause-ranges
-returns-clause-ranges c = ranges c
+pub returns-clause-ok : goal.returns-clause-ok
+returns-clause-ok c = ok c
 
-pub returns-clause-came : goal.returns-clause-came
-returns-clause-came c loaded trail came =
+pub returns-clause-trail : goal.returns-clause-trail
+returns-clause-trail c loaded trail came =
     let there = sym c.get.ensures ∙ c.in-Some.is in
     let is = seen_is _ _ _ c.args.id c.in-Some.info (ap (λ d. d.ranges) c.self.view_is) there in
+    let new = ok c _ is in
     CameBy-set loaded trail c.args.self.now _ c.args.id c.args.span _ came is
-    (c.unhang.ensures.text ∙ c.in-Ok.ensures.text ∙ ap (λ d. d.text) c.self.view_is)
-    (ap (λ d. d.revision) c.self.view_is)
-    (c.set.ensures.next ∙ ap (λ d. d.next) c.self.view_is)
-    (ranges c _ is)
+    (ap (λ d. d.text) new) (ap (λ d. d.revision) new) (ap (λ d. d.next) new) (ap (λ d. d.ranges) new)
 
 pub returns-clause-none : goal.returns-clause-none
 returns-clause-none c none =
     let some = seen_is _ _ _ c.args.id c.in-Some.info (ap (λ d. d.ranges) c.self.view_is) (sym c.get.ensures ∙ c.in-Some.is) in
     absurd (cc)
+
+pub returns-in_default-hang-clause-invalid : goal.returns-in_default-hang-clause-invalid
+returns-in_default-hang-clause-invalid c range is none =
+    let same : standing_of c.self.inside.buffer.hung c.in-Some.info ≡ range =
+    seen_same _ _ _ c.args.id c.in-Some.info range (ap (λ d. d.ranges) c.self.view_is) (sym c.get.ensures ∙ c.in-Some.is) is in
+    let ok = c.hang.ensures.invalid
+    (ap (λ (empty : Empty). made (length c.self.inside.buffer.text) c.args.span empty) (ap (λ (r : Standing). r.empty) same)
+    ∙ ap (λ d. made (length d.text) c.args.span range.empty) c.self.view_is ∙ none) in
+    let bad = rw c.in_default-hang.is at ok in absurd (cc)
+
+pub returns-in_default-clause-invalid : goal.returns-in_default-clause-invalid
+returns-in_default-clause-invalid c range is none =
+    let not_there = seen_none _ _ _ c.args.id (ap (λ d. d.ranges) c.self.view_is) (sym c.get.ensures ∙ c.in_default.is) in absurd (cc)
