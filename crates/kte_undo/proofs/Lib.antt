@@ -1,0 +1,4 @@
+pub mod AroundLemmas
+pub mod InverseLemmas
+pub mod GroupLemmas
+mod Examples
