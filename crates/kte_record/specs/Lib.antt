@@ -1,0 +1,5 @@
+pub mod Grammar
+pub mod Reading
+pub mod Transactions
+pub mod Recovery
+pub mod Cuts
