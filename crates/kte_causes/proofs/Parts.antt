@@ -3,39 +3,67 @@ use Rattle.std.proofs.Common.{◌≡◌, ℕ, ◌+◌, ◌-◌, ◌≤◌, List,
 use Rattle.std.proofs.lemmas.List.{take-append-drop}
 use Rattle.std.proofs.Math.Seq.{take-append_seam, take-add, drop-drop}
 use Rattle.std.proofs.lemmas.Grind.{common_steps}
-use Rattle.std.specs.Option.{option_map}
-use Rattle.kte_causes.specs.Contents.{Takes, Gains}
+use Rattle.std.specs.Io.KnownBytes.{Consumes, Appends, Keeps, IsAtEnd}
 
-pub Takes-nil : (x : Option (List ℕ)) → Takes [] x x
-Takes-nil None = refl
-Takes-nil (Some xs) = refl
+pub Keeps-refl : (x : Option (List ℕ)) → Keeps x x
+Keeps-refl None = tt
+Keeps-refl (Some xs) = refl
 
-pub Takes-more : (a b : List ℕ) (x y z : Option (List ℕ)) → Takes a x y → Takes b y z → Takes (a ++ b) x z
-Takes-more a b x y None p q = p ∙ ap (option_map (λ rest. a ++ rest)) q
-Takes-more a b x y (Some zs) p q = p ∙ ap (option_map (λ rest. a ++ rest)) q ∙ ap Some (sym (append_assoc a b zs))
+pub Keeps-trans : (x y z : Option (List ℕ)) → Keeps x y → Keeps y z → Keeps x z
+Keeps-trans None y z p q = tt
+Keeps-trans (Some xs) None z p q = absurd p
+Keeps-trans (Some xs) (Some ys) None p q = q
+Keeps-trans (Some xs) (Some ys) (Some zs) p q = q ∙ p
 
-pub Gains-nil : (x : Option (List ℕ)) → Gains [] x x
-Gains-nil None = refl
-Gains-nil (Some xs) = ap Some (sym (append-nil xs))
+-- nothing taken
+pub Consumes-none : (x y : Option (List ℕ)) → Keeps x y → Consumes x y []
+Consumes-none None y p = tt
+Consumes-none (Some xs) None p = p
+Consumes-none (Some xs) (Some ys) p = sym p
 
-pub Gains-more : (a b : List ℕ) (x y z : Option (List ℕ)) → Gains a x y → Gains b y z → Gains (a ++ b) x z
-Gains-more a b None y z p q = q ∙ ap (option_map (λ got. got ++ b)) p
-Gains-more a b (Some xs) y z p q = q ∙ ap (option_map (λ got. got ++ b)) p ∙ ap Some (append_assoc xs a b)
+pub Consumes-nil : (x : Option (List ℕ)) → Consumes x x []
+Consumes-nil x = Consumes-none x x (Keeps-refl x)
+
+pub Consumes-more : (a b : List ℕ) (x y z : Option (List ℕ)) → Consumes x y a → Consumes y z b → Consumes x z (a ++ b)
+Consumes-more a b None y z p q = tt
+Consumes-more a b (Some xs) None z p q = absurd p
+Consumes-more a b (Some xs) (Some ys) None p q = q
+Consumes-more a b (Some xs) (Some ys) (Some zs) p q = p ∙ ap (λ rest. a ++ rest) q ∙ sym (append_assoc a b zs)
+
+-- bytes taken after a time at which they stayed
+pub Consumes-kept : (a : List ℕ) (x y z : Option (List ℕ)) → Keeps x y → Consumes y z a → Consumes x z a
+Consumes-kept a x y z p q = Consumes-more [] a x y z (Consumes-none x y p) q
 
 -- what was taken is all that was left, where nothing is left
-pub Takes-all : (a : List ℕ) (x y : Option (List ℕ)) → Takes a x y → IfSome y (λ rest. rest ≡ []) → IfSome x (λ left. a ≡ left)
-Takes-all a None y p h = tt
-Takes-all a (Some xs) None p h = cc
-Takes-all a (Some xs) (Some ys) p h =
-    let all : xs ≡ a ++ ys = cc in
-    let none : ys ≡ [] = h in
-    sym (all ∙ ap (λ rest. a ++ rest) none ∙ append-nil a)
+pub Consumes-all : (a : List ℕ) (x y : Option (List ℕ)) → Consumes x y a → IsAtEnd y → IfSome x (λ left. a ≡ left)
+Consumes-all a None y p h = tt
+Consumes-all a (Some xs) None p h = absurd p
+Consumes-all a (Some xs) (Some ys) p h = sym (p ∙ ap (λ rest. a ++ rest) h ∙ append-nil a)
 
 -- how many bytes were taken
-pub Takes-length : (a : List ℕ) (x y : Option (List ℕ)) → Takes a x y → IfSome x (λ before. IfSome y (λ after. length before ≡ length a + length after))
-Takes-length a None y p = tt
-Takes-length a (Some xs) None p = tt
-Takes-length a (Some xs) (Some ys) p = let e : xs ≡ a ++ ys = cc in rw (e, length-append)
+pub Consumes-length : (a : List ℕ) (x y : Option (List ℕ)) → Consumes x y a → IfSome x (λ before. IfSome y (λ after. length before ≡ length a + length after))
+Consumes-length a None y p = tt
+Consumes-length a (Some xs) None p = tt
+Consumes-length a (Some xs) (Some ys) p = ap length p ∙ length-append a ys
+
+pub Appends-nil : (x y : Option (List ℕ)) → Keeps x y → Appends x y []
+Appends-nil None y p = tt
+Appends-nil (Some xs) None p = p
+Appends-nil (Some xs) (Some ys) p = p ∙ sym (append-nil xs)
+
+pub Appends-more : (a b : List ℕ) (x y z : Option (List ℕ)) → Appends x y a → Appends y z b → Appends x z (a ++ b)
+Appends-more a b None y z p q = tt
+Appends-more a b (Some xs) None z p q = absurd p
+Appends-more a b (Some xs) (Some ys) None p q = q
+Appends-more a b (Some xs) (Some ys) (Some zs) p q = q ∙ ap (λ got. got ++ b) p ∙ append_assoc xs a b
+
+-- bytes added after a time at which they stayed
+pub Appends-kept : (a : List ℕ) (x y z : Option (List ℕ)) → Keeps x y → Appends y z a → Appends x z a
+Appends-kept a x y z p q = Appends-more [] a x y z (Appends-nil x y p) q
+
+-- bytes that stay after some were added
+pub Appends-then_kept : (a : List ℕ) (x y z : Option (List ℕ)) → Appends x y a → Keeps y z → Appends x z a
+Appends-then_kept a x y z p q = subst (Appends x z) (append-nil a) (Appends-more a [] x y z p (Appends-nil y z q))
 
 -- what was copied from the front, and the rest, are what was left
 pub front_and_rest : (n at : ℕ) (bytes piece rest : List ℕ) → length piece ≡ n → piece ≡ take n (drop at bytes) → drop at bytes ≡ take n (piece ++ rest) ++ drop (at + n) bytes
@@ -44,9 +72,9 @@ front_and_rest n at bytes piece rest len copied =
     sym (take-append-drop n (drop at bytes)) ∙ ap (λ l. take n (drop at bytes) ++ l) (drop-drop n at bytes)
     ∙ ap (λ l. l ++ drop (at + n) bytes) (sym (front ∙ copied))
 
--- the part of a slice that was added behind its first part
-pub Gains-next : (w n : ℕ) (bytes : List ℕ) (x y z : Option (List ℕ)) → w ≤ length bytes → Gains (take w bytes) x y → Gains (take n (take (length bytes - w) (drop w bytes))) y z → Gains (take (w + n) bytes) x z
-Gains-next w n bytes x y z h p q =
+-- the part of a slice that was added after its first part
+pub Appends-next : (w n : ℕ) (bytes : List ℕ) (x y z : Option (List ℕ)) → w ≤ length bytes → Appends x y (take w bytes) → Appends y z (take n (take (length bytes - w) (drop w bytes))) → Appends x z (take (w + n) bytes)
+Appends-next w n bytes x y z h p q =
     let rest : take (length bytes - w) (drop w bytes) ≡ drop w bytes = grind (arith, common_steps) in
-    let next : Gains (take n (drop w bytes)) y z = rw rest at q in
-    rw (take-add w n bytes) (Gains-more _ _ x y z p next)
+    let next : Appends y z (take n (drop w bytes)) = rw rest at q in
+    rw (take-add w n bytes) (Appends-more _ _ x y z p next)

@@ -4,7 +4,7 @@ ghost use Rattle.kte_causes.specs.declared.causes.SinkFail.TheVariants as sink_f
 ghost use Rattle.kte_causes.specs.declared.causes.DiskFail.TheVariants as disk_fail;
 ghost use Rattle.std.specs.Prelude.{◌≡◌};
 
-use std::alloc::{AllocError, AllocFailed};
+use std::alloc::AllocError;
 use thiserror::Error;
 
 /// Why a read took nothing.
@@ -21,18 +21,18 @@ pub enum SinkFail {
     /// The sink failed, and counted it.
     #[error("the sink failed")]
     Failed,
-    /// Memory ran out.
+    /// Out of memory.
     #[error("out of memory")]
     NoMemory,
 }
 
-/// Why a call on the disk did nothing.
+/// Why a call on the disk failed.
 #[derive(Clone, Copy, Debug, PartialEq, Eq, Hash, Error)]
 pub enum DiskFail {
-    /// The disk failed, and counted it for this call.
+    /// The disk failed, and counted it for this call. A part of the call may have taken place.
     #[error("the disk failed")]
     Failed,
-    /// Memory ran out.
+    /// Out of memory. The call changed nothing.
     #[error("out of memory")]
     NoMemory,
 }
@@ -44,6 +44,18 @@ pub enum DiskCall {
     SavedLen,
     /// Bytes of the saved file.
     SavedAt,
+    /// The length of the swap file.
+    SwapLen,
+    /// Bytes of the swap file.
+    SwapAt,
+    /// Adding to the end of the swap file.
+    Append,
+    /// Making the swap file safe from a crash.
+    Sync,
+    /// Replacing the saved file.
+    Replace,
+    /// Emptying the swap file.
+    Reset,
 }
 
 /// Why a source was not read whole.
@@ -55,7 +67,7 @@ pub enum ReadFault {
     /// The source had more bytes than the limit.
     #[error("more bytes than the limit")]
     TooLong,
-    /// Memory ran out.
+    /// Out of memory.
     #[error("out of memory")]
     NoMemory,
 }
@@ -76,14 +88,6 @@ impl From<AllocError> for ReadFault {
     }
 }
 
-impl<T: Drop> From<AllocFailed<T>> for ReadFault {
-    ghost from_gives = { λ _ e. e ≡ read_fault.NoMemory };
-
-    fn from(_: AllocFailed<T>) -> Self {
-        ReadFault::NoMemory
-    }
-}
-
 impl From<AllocError> for SinkFail {
     ghost from_gives = { λ _ e. e ≡ sink_fail.NoMemory };
 
@@ -92,26 +96,10 @@ impl From<AllocError> for SinkFail {
     }
 }
 
-impl<T: Drop> From<AllocFailed<T>> for SinkFail {
-    ghost from_gives = { λ _ e. e ≡ sink_fail.NoMemory };
-
-    fn from(_: AllocFailed<T>) -> Self {
-        SinkFail::NoMemory
-    }
-}
-
 impl From<AllocError> for DiskFail {
     ghost from_gives = { λ _ e. e ≡ disk_fail.NoMemory };
 
     fn from(_: AllocError) -> Self {
-        DiskFail::NoMemory
-    }
-}
-
-impl<T: Drop> From<AllocFailed<T>> for DiskFail {
-    ghost from_gives = { λ _ e. e ≡ disk_fail.NoMemory };
-
-    fn from(_: AllocFailed<T>) -> Self {
         DiskFail::NoMemory
     }
 }

@@ -1,7 +1,8 @@
 //! A source read to its end, and bytes written to the last.
 ghost use Rattle.std.specs.Prelude.{◌≡◌, ℕ, ◌+◌, ◌<◌, ◌≤◌, ◌↔◌, List, [], ◌++◌, length, take, vec_len, IfOk, IfSome, OnOk, OnErr, IsErrOf};
-ghost use Rattle.kte_causes.specs.Faults.{Rose};
-ghost use Rattle.kte_causes.specs.Contents.{TakesSome, Takes, Gains, GainsPrefix};
+ghost use Rattle.std.specs.Io.KnownBytes.{Appends, IsAtEnd};
+ghost use Rattle.kte_causes.specs.Faults.{CountsFault};
+ghost use Rattle.kte_causes.specs.Contents.{ConsumesSome, AppendsPrefix};
 
 use crate::causes::{ReadFault, SinkFail};
 use crate::outside::{Sink, Source};
@@ -10,30 +11,23 @@ use std::alloc::Global;
 /// The most bytes that one read is asked for.
 const PIECE: usize = 4096;
 
-/// Reads all that is left, if it is at most `limit` bytes. It takes at most `limit + 1` bytes.
-/// After an error some first bytes were taken, or none.
+/// Reads all that is left, if it is at most `limit` bytes. Takes at most `limit + 1` bytes from the
+/// source. After an error some first bytes were taken, or none.
 pub fn read_whole<S: Source>(
     alloc: Global,
     source: &mut S,
     limit: u64,
 ) -> Result<Vec<u8>, ReadFault>
     ensures whole { IfOk result (λ bytes. IfSome (S.left source.old) (λ left. bytes.items ≡ left)) }
-    ensures to_the_end { OnOk result (IfSome (S.left source.new) (λ left. left ≡ [])) }
+    ensures to_the_end { OnOk result (IsAtEnd (S.left source.new)) }
     ensures within { IfOk result (λ bytes. vec_len bytes ≤ limit) }
     ensures too_long { IfSome (S.left source.old) (λ before. IfSome (S.left source.new) (λ after.
         IsErrOf result ReadFault.TooLong ↔ (length after + limit < length before))) }
-    ensures taken { TakesSome (S.left source.old) (S.left source.new) }
+    ensures taken { ConsumesSome (S.left source.old) (S.left source.new) }
     ensures at_most { IfSome (S.left source.old) (λ before. IfSome (S.left source.new) (λ after.
         length before ≤ length after + limit + 1)) }
-
-    ensures failed { IsErrOf result ReadFault.Failed
-        → Rose (S.faults source.old) (S.faults source.new) }
-    ensures calm_too_long { IsErrOf result ReadFault.TooLong
-        → S.faults source.new ≡ S.faults source.old }
-    ensures calm_no_memory { IsErrOf result ReadFault.NoMemory
-        → S.faults source.new ≡ S.faults source.old }
-    ensures calm { OnOk result (S.faults source.new ≡ S.faults source.old) }
-    ensures counted { S.faults source.old ≤ S.faults source.new }
+    ensures counts { CountsFault ReadFault.Failed result (S.faults source.old)
+        (S.faults source.new) }
 {
     let mut bytes = Vec::new(alloc);
     let mut piece = [0; PIECE];
@@ -53,14 +47,9 @@ pub fn read_whole<S: Source>(
 
 /// Writes all the bytes. After an error the sink got the first of them, or none.
 pub fn write_whole<O: Sink>(sink: &mut O, bytes: &[u8]) -> Result<(), SinkFail>
-    ensures whole { OnOk result (Gains bytes.now (O.got sink.old) (O.got sink.new)) }
-    ensures prefix { OnErr result (GainsPrefix bytes.now (O.got sink.old) (O.got sink.new)) }
-
-    ensures failed { IsErrOf result SinkFail.Failed → Rose (O.faults sink.old) (O.faults sink.new) }
-    ensures calm_no_memory { IsErrOf result SinkFail.NoMemory
-        → O.faults sink.new ≡ O.faults sink.old }
-    ensures calm { OnOk result (O.faults sink.new ≡ O.faults sink.old) }
-    ensures counted { O.faults sink.old ≤ O.faults sink.new }
+    ensures whole { OnOk result (Appends (O.got sink.old) (O.got sink.new) bytes.now) }
+    ensures prefix { OnErr result (AppendsPrefix (O.got sink.old) (O.got sink.new) bytes.now) }
+    ensures counts { CountsFault SinkFail.Failed result (O.faults sink.old) (O.faults sink.new) }
 {
     let mut written = 0;
     while written < bytes.len() {

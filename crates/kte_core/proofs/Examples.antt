@@ -15,10 +15,10 @@ use Rattle.kte_core.specs.React.{State, Editing, Reaction, react, text_of, revis
 use Rattle.kte_core.specs.Replay.{beginning, after_event, replay, IsLegal}
 use Rattle.kte_core.specs.declared.event.Event.{Event}
 use Rattle.kte_core.specs.declared.reply.Reply.TheVariants as reply
-use Rattle.kte_core.specs.declared.reply.Refusal.TheVariants.{Misfit, RevisionsFull, NoRange}
+use Rattle.kte_core.specs.declared.reply.Refusal.TheVariants.{Misfit, RevisionsFull, NoRange, NotLocked, NotOwned}
 use Rattle.kte_core.specs.declared.request.Request.{Request}
 use Rattle.kte_core.specs.declared.request.Request.TheVariants.{Cmd}
-use Rattle.kte_core.specs.declared.request.Command.TheVariants.{Put, MakeRange, SetRange, DropRange, ShowRange}
+use Rattle.kte_command.specs.declared.command.Command.TheVariants.{Put, MakeRange, SetRange, DropRange, ShowRange, Lock, Unlock, Land}
 
 -- `hello` and an empty line, where two revisions can be made
 abbrev hello : State
@@ -103,3 +103,35 @@ drop-none = rw (get-empty nat_cmp 7) refl
 
 show-none : asked hello (Cmd (ShowRange 7)) ≡ refused hello (NoRange 7)
 show-none = rw (get-empty nat_cmp 7) refl
+
+-- a revision that is locked twice stays locked until it is unlocked twice
+
+abbrev ab : State
+ab = beginning (record { text = codes "ab" ∷ [] ∷ []; eol = Lf; bom = false }) 9
+
+lock : (asked ab (Cmd Lock)).reply ≡ reply.Locked 0
+lock = refl
+
+abbrev locked_twice : State
+locked_twice = (asked (asked ab (Cmd Lock)).after (Cmd Lock)).after
+
+unlock : (asked locked_twice (Cmd (Unlock 0))).reply ≡ reply.Unlocked 0
+unlock = refl
+
+abbrev later : State
+later = (asked (asked locked_twice (Cmd (Unlock 0))).after (put (Insert 0 0 (codes "x")))).after
+
+abbrev landing : Request
+landing = Cmd (Land 0 (span 0 1 0 2) (record { left = false; right = false }) Allow)
+
+land : (asked later landing).reply ≡ reply.Landed (Some (span 0 2 0 3))
+land = refl
+
+abbrev free : State
+free = (asked later (Cmd (Unlock 0))).after
+
+not_locked : asked free landing ≡ refused free (NotLocked 0 None)
+not_locked = refl
+
+not_owned : asked free (Cmd (Unlock 0)) ≡ refused free (NotOwned 0)
+not_owned = refl

@@ -15,7 +15,7 @@ use Rattle.kte_core.specs.React.{Range, Editing, State, stands, made_now, set_no
 use Rattle.kte_core.specs.Shown.{range_of, told_of, IsOf, Replies}
 use Rattle.kte_core.specs.declared.reply.Reply.{Reply}
 use Rattle.kte_core.specs.declared.reply.Reply.TheVariants as reply
-use Rattle.kte_core.specs.declared.request.Command.TheVariants.{MakeRange, SetRange, DropRange}
+use Rattle.kte_command.specs.declared.command.Command.TheVariants.{MakeRange, SetRange, DropRange}
 
 -- the ranges of a document are those of a state
 abbrev Same : Standings → FinMap nat_cmp Range → Type 0
@@ -47,8 +47,8 @@ get_here : {X : Type 0} (m : FinMap nat_cmp X) (id : ℕ) (x : X) → get (inser
 get_here m id x = get-insert nat_cmp_total m id x id ∙ ap (λ b. cond b (Some x) (get m id)) (here id)
 
 -- a range that was put under a number, and where it stands
-Replies-placed : (state : State) (document later : Document) (id : ℕ) (standing : Standing) (answer : Reply) → Same document.ranges state.ranges → CameBy state.editing.loaded.text state.editing.trail later → later.limit ≡ state.editing.limit → later.ranges ≡ insert document.ranges id standing → later.next ≡ state.next_id → answer ≡ told_of id (get later.ranges id) → Replies (placed state id (range_of standing)) answer later
-Replies-placed state document later id standing answer same came limit ranges next_id told =
+Replies-placed : (state : State) (document later : Document) (id : ℕ) (standing : Standing) (answer : Reply) → Same document.ranges state.ranges → CameBy state.editing.loaded.text state.editing.trail later → later.limit ≡ state.editing.limit → later.ranges ≡ insert document.ranges id standing → later.next ≡ state.next_id → later.locks ≡ state.locks → answer ≡ told_of id (get later.ranges id) → Replies (placed state id (range_of standing)) answer later
+Replies-placed state document later id standing answer same came limit ranges next_id locks told =
     let found : get later.ranges id ≡ Some standing = ap (λ (m : Standings). get m id) ranges ∙ get_here document.ranges id standing in
     record {
       reply = told ∙ ap (told_of id) found ∙ ap (reply.Range id) (came.ranges id standing found).span;
@@ -58,18 +58,19 @@ Replies-placed state document later id standing answer same came limit ranges ne
         limit = limit;
         ranges = rw ranges (same_insert document.ranges state.ranges id standing same);
         next_id = next_id;
+        locks = locks;
       };
     }
 
-pub Replies-make : (state : State) (document later : Document) (span : Ends) (expand : Expand) (empty : Empty) (answer : Reply) → IsOf state document → ((loaded : List (List ℕ)) (trail : List Primitive) → CameBy loaded trail document → CameBy loaded trail later) → later.limit ≡ document.limit → later.ranges ≡ insert document.ranges document.next (new_range document.text document.revision span expand empty User) → later.next ≡ document.next + 1 → answer ≡ told_of document.next (get later.ranges document.next) → Replies (react_command state (MakeRange span expand empty)) answer later
-Replies-make state document later span expand empty answer is_of came limit ranges next_id told =
+pub Replies-make : (state : State) (document later : Document) (span : Ends) (expand : Expand) (empty : Empty) (answer : Reply) → IsOf state document → ((loaded : List (List ℕ)) (trail : List Primitive) → CameBy loaded trail document → CameBy loaded trail later) → later.limit ≡ document.limit → later.ranges ≡ insert document.ranges document.next (new_range document.text document.revision span expand empty User) → later.next ≡ document.next + 1 → later.locks ≡ document.locks → answer ≡ told_of document.next (get later.ranges document.next) → Replies (react_command state (MakeRange span expand empty)) answer later
+Replies-make state document later span expand empty answer is_of came limit ranges next_id locks told =
     let standing = new_range document.text document.revision span expand empty User in
     let same : range_of standing ≡ made_now state.editing span expand empty User =
     ap (λ (revision : ℕ). range_of (new_range document.text revision span expand empty User)) is_of.came.revision in
     subst (λ (id : ℕ). Replies (placed (record state { next_id = id + 1 }) id (made_now state.editing span expand empty User)) answer later) is_of.next_id
     (subst (λ (range : Range). Replies (placed (record state { next_id = document.next + 1 }) document.next range) answer later) same
     (Replies-placed (record state { next_id = document.next + 1 }) document later document.next standing answer
-    is_of.ranges (came state.editing.loaded.text state.editing.trail is_of.came) (limit ∙ is_of.limit) ranges next_id told))
+    is_of.ranges (came state.editing.loaded.text state.editing.trail is_of.came) (limit ∙ is_of.limit) ranges next_id (locks ∙ is_of.locks) told))
 
 -- what holds of a number that has a range holds where it is not without one
 there : {P : Type 0} (found : Option Standing) → (found ≡ None → ⊥) → ((standing : Standing) → found ≡ Some standing → P) → P
@@ -90,10 +91,10 @@ Replies-set state document later id span answer is_of some came new told =
     subst (λ (found : Option Range). Replies (set_range state id span found) answer later) (was_there state document id standing is_of found)
     (subst (λ (range : Range). Replies (placed state id range) answer later) same
     (Replies-placed state document later id set answer
-    is_of.ranges (came state.editing.loaded.text state.editing.trail is_of.came) (ap (λ d. d.limit) is ∙ is_of.limit) (ap (λ d. d.ranges) is) (ap (λ d. d.next) is ∙ is_of.next_id) told)))
+    is_of.ranges (came state.editing.loaded.text state.editing.trail is_of.came) (ap (λ d. d.limit) is ∙ is_of.limit) (ap (λ d. d.ranges) is) (ap (λ d. d.next) is ∙ is_of.next_id) (ap (λ d. d.locks) is ∙ is_of.locks) told)))
 
-pub Replies-drop : (state : State) (document later : Document) (id : ℕ) → IsOf state document → (get document.ranges id ≡ None → ⊥) → ((loaded : List (List ℕ)) (trail : List Primitive) → CameBy loaded trail document → CameBy loaded trail later) → later.limit ≡ document.limit → later.ranges ≡ remove document.ranges id → later.next ≡ document.next → Replies (react_command state (DropRange id)) (reply.Dropped id) later
-Replies-drop state document later id is_of some came limit ranges next_id =
+pub Replies-drop : (state : State) (document later : Document) (id : ℕ) → IsOf state document → (get document.ranges id ≡ None → ⊥) → ((loaded : List (List ℕ)) (trail : List Primitive) → CameBy loaded trail document → CameBy loaded trail later) → later.limit ≡ document.limit → later.ranges ≡ remove document.ranges id → later.next ≡ document.next → later.locks ≡ document.locks → Replies (react_command state (DropRange id)) (reply.Dropped id) later
+Replies-drop state document later id is_of some came limit ranges next_id locks =
     there (get document.ranges id) some (λ standing found.
     subst (λ (found : Option Range). Replies (drop_range state id found) (reply.Dropped id) later) (was_there state document id standing is_of found)
     (record {
@@ -104,5 +105,6 @@ Replies-drop state document later id is_of some came limit ranges next_id =
         limit = limit ∙ is_of.limit;
         ranges = rw ranges (same_remove document.ranges state.ranges id is_of.ranges);
         next_id = next_id ∙ is_of.next_id;
+        locks = locks ∙ is_of.locks;
       };
     }))

@@ -1,13 +1,17 @@
 -- What one more event makes of a replay.
-use Rattle.std.proofs.Common.{◌≡◌, ℕ, ◌+◌, ◌≤◌, List, [], ◌∷◌, ◌++◌, length, Option, Some, None, refl, ap, sym, subst, ◌∙◌, arith}
+use Rattle.std.proofs.Common.{◌≡◌, ℕ, ◌+◌, ◌≤◌, Bool, true, false, List, [], ◌∷◌, ◌++◌, length, Option, Some, None, refl, ap, sym, subst, ◌∙◌, arith}
 use Rattle.std.specs.Option.{option_map}
 use Rattle.std.specs.Ordering.{nat_cmp}
 use Rattle.std.specs.FinMap.{get, empty, get-empty}
 use Rattle.kte_text.specs.declared.primitive.Primitive.{Primitive}
 use Rattle.kte_place.specs.Ends.{Ends}
+use Rattle.kte_place.specs.declared.span.Expand.{Expand}
+use Rattle.kte_place.specs.declared.span.Empty.{Empty}
+use Rattle.kte_history.specs.declared.lock.Owner.TheVariants.{Editor}
+use Rattle.kte_history.specs.Locks.{has_lock}
 use Rattle.kte_doc.specs.Documents.{CameBy}
 use Rattle.kte_doc.specs.Standings.{Standings}
-use Rattle.kte_core.specs.React.{Editing, Range, State, Reaction, edit_judged, refusal_of, steps_of, text_of, revision_of, react, set_range, drop_range, show_range}
+use Rattle.kte_core.specs.React.{Editing, Range, State, Reaction, edit_judged, refusal_of, steps_of, text_of, revision_of, react, set_range, drop_range, show_range, unlock, land, can_land_from}
 use Rattle.kte_core.specs.Requests.{IsAllowed}
 use Rattle.kte_core.specs.Replay.{Session, beginning, present, replay, after_event, IsLegal, Legal}
 use Rattle.kte_core.specs.Shown.{range_of, IsOf, Meets}
@@ -16,7 +20,7 @@ use Rattle.kte_core.specs.declared.session.Core.TheInside.{Inside}
 use Rattle.kte_core.specs.declared.event.Event.{Event}
 use Rattle.kte_core.specs.declared.event.Step.{Step}
 use Rattle.kte_core.specs.declared.reply.Refusal.{Refusal}
-use Rattle.kte_core.specs.declared.request.Command.TheVariants.{Put, MakeRange, SetRange, DropRange, ShowRange}
+use Rattle.kte_command.specs.declared.command.Command.TheVariants.{Put, MakeRange, SetRange, DropRange, ShowRange, Lock, Unlock, Land}
 use Rattle.kte_core.specs.declared.request.Request.{Request}
 use Rattle.kte_core.specs.declared.request.Request.TheVariants.{Cmd}
 
@@ -51,6 +55,14 @@ kept-show : (state : State) (id : ℕ) (found : Option Range) → Kept state (sh
 kept-show state id None = record { limit = refl; next_id = omega arith }
 kept-show state id (Some range) = record { limit = refl; next_id = omega arith }
 
+kept-unlock : (state : State) (revision : ℕ) (owned : Bool) → Kept state (unlock state revision owned)
+kept-unlock state revision true = record { limit = refl; next_id = omega arith }
+kept-unlock state revision false = record { limit = refl; next_id = omega arith }
+
+kept-land : (state : State) (revision : ℕ) (span : Ends) (expand : Expand) (empty : Empty) (may : Bool) → Kept state (land state revision span expand empty may)
+kept-land state revision span expand empty true = record { limit = refl; next_id = omega arith }
+kept-land state revision span expand empty false = record { limit = refl; next_id = omega arith }
+
 kept : (state : State) (seat : ℕ) (request : Request) → Kept state (react state seat request)
 kept state seat (Cmd (Put step)) = record {
   limit = kept-judged (refusal_of (text_of state.editing) (revision_of state.editing) state.editing.limit step) state.editing (steps_of step);
@@ -60,6 +72,9 @@ kept state seat (Cmd (MakeRange span expand empty)) = record { limit = refl; nex
 kept state seat (Cmd (SetRange id span)) = kept-set state id span (get state.ranges id)
 kept state seat (Cmd (DropRange id)) = kept-drop state id (get state.ranges id)
 kept state seat (Cmd (ShowRange id)) = kept-show state id (get state.ranges id)
+kept state seat (Cmd Lock) = record { limit = refl; next_id = omega arith }
+kept state seat (Cmd (Unlock revision)) = kept-unlock state revision (has_lock state.locks Editor revision)
+kept state seat (Cmd (Land revision span expand empty)) = kept-land state revision span expand empty (can_land_from state revision)
 
 limit-replay : (state : State) (events : List Event) → (replay state events).editing.limit ≡ state.editing.limit
 limit-replay state [] = refl
@@ -82,13 +97,14 @@ next_id-sound core sound =
     rw sound.document.next_id (next_id-replay (beginning core.loaded core.limit) core.journal)
 
 -- a core without events is sound where its document is the loaded text
-pub IsSound-new : (core : Inside) → core.journal ≡ [] → CameBy core.loaded.text [] core.doc → core.doc.limit ≡ core.limit → core.doc.ranges ≡ empty → core.doc.next ≡ 1 → IsSound core
-IsSound-new core none came limit ranges next_id = record {
+pub IsSound-new : (core : Inside) → core.journal ≡ [] → CameBy core.loaded.text [] core.doc → core.doc.limit ≡ core.limit → core.doc.ranges ≡ empty → core.doc.next ≡ 1 → core.doc.locks ≡ [] → IsSound core
+IsSound-new core none came limit ranges next_id locks = record {
   document = rw none (record {
     came = came;
     limit = limit;
     ranges = λ id. ap (λ (ranges : Standings). option_map range_of (get ranges id)) ranges ∙ ap (option_map range_of) (get-empty nat_cmp id) ∙ sym (get-empty nat_cmp id);
     next_id = next_id;
+    locks = locks;
   });
   legal = rw none tt;
 }

@@ -1,7 +1,7 @@
 -- What a request makes of the present state, and what is replied. Source: KTextEditor's Document
 -- and MovingRange; the order of refusals, and that numbers of ranges rise from 1, are this
 -- project's own.
-use Rattle.std.specs.Prelude.{ℕ, ◌+◌, List, [], ◌∷◌, ◌++◌, length, nat_lt, Option, Some, None, if◌then◌else◌}
+use Rattle.std.specs.Prelude.{ℕ, ◌+◌, Bool, true, false, ◌==◌, ◌||◌, List, [], ◌∷◌, ◌++◌, length, nat_lt, Option, Some, None, if◌then◌else◌}
 use Rattle.std.specs.Option.{option_map, option_or}
 use Rattle.std.specs.Ordering.{nat_cmp}
 use Rattle.std.specs.FinMap.{FinMap, get, insert, remove}
@@ -14,15 +14,18 @@ use Rattle.kte_place.specs.declared.span.Empty.{Empty}
 use Rattle.kte_ranges.specs.declared.info.RangeKind.{RangeKind}
 use Rattle.kte_ranges.specs.declared.info.RangeKind.TheVariants.{User}
 use Rattle.kte_ranges.specs.declared.info.Origin.{Origin}
+use Rattle.kte_history.specs.declared.lock.Lock as lock_type
+use Rattle.kte_history.specs.declared.lock.Owner.TheVariants.{Editor}
+use Rattle.kte_history.specs.Locks.{oldest, is_locked, has_lock, unlocked}
 use Rattle.kte_doc.specs.Trail.{stand}
-use Rattle.kte_core.specs.declared.request.Command.{Command}
-use Rattle.kte_core.specs.declared.request.Command.TheVariants.{Put, MakeRange, SetRange, DropRange, ShowRange}
+use Rattle.kte_command.specs.declared.command.Command.{Command}
+use Rattle.kte_command.specs.declared.command.Command.TheVariants.{Put, MakeRange, SetRange, DropRange, ShowRange, Lock, Unlock, Land}
 use Rattle.kte_core.specs.declared.request.Request.{Request}
 use Rattle.kte_core.specs.declared.request.Request.TheVariants.{Cmd}
 use Rattle.kte_core.specs.declared.reply.Reply.{Reply}
 use Rattle.kte_core.specs.declared.reply.Reply.TheVariants as reply
 use Rattle.kte_core.specs.declared.reply.Refusal.{Refusal}
-use Rattle.kte_core.specs.declared.reply.Refusal.TheVariants.{Misfit, RevisionsFull, NoRange}
+use Rattle.kte_core.specs.declared.reply.Refusal.TheVariants.{Misfit, RevisionsFull, NoRange, NotLocked, NotOwned}
 
 -- What is edited: what was loaded, how many primitives may be made, and those made since, in order
 pub record Editing : Type 0 where
@@ -62,12 +65,14 @@ made_now editing span expand empty kind = record {
 abbrev pub set_now : Editing → Ends → Range → Range
 set_now editing span range = made_now editing span range.expand range.empty range.kind
 
--- What a core holds: what is edited, the ranges by their numbers, and the number that the next
--- range gets
+-- What a core holds: what is edited, the ranges by their numbers, the number that the next range
+-- gets, and the locks
 pub record State : Type 0 where
   pub editing : Editing
   pub ranges : FinMap nat_cmp Range
   pub next_id : ℕ
+  -- the locks on revisions, in the order in which they were taken
+  pub locks : List lock_type.Lock
 
 -- the steps of an edit: an insertion or a removal of nothing is no step
 abbrev pub steps_of : Primitive → List Primitive
@@ -153,6 +158,34 @@ abbrev pub show_range : State → ℕ → Option Range → Reaction
 show_range state id None = refused state (NoRange id)
 show_range state id (Some range) = replied state (reply.Range id (stands state.editing range))
 
+-- locking the present revision for the editor
+abbrev pub lock : State → Reaction
+lock state = record {
+  reply = reply.Locked (revision_of state.editing);
+  made = [];
+  after = record state { locks = state.locks ++ record { owner = Editor; revision = revision_of state.editing } ∷ [] };
+}
+
+-- removing one of the editor's locks, if it has one there
+abbrev pub unlock : State → ℕ → Bool → Reaction
+unlock state revision true = record {
+  reply = reply.Unlocked revision;
+  made = [];
+  after = record state { locks = unlocked state.locks Editor revision };
+}
+unlock state revision false = refused state (NotOwned revision)
+
+-- the revision is the present one, or is locked by anybody
+abbrev pub can_land_from : State → ℕ → Bool
+can_land_from state revision = revision == revision_of state.editing || is_locked state.locks revision
+
+-- where a span lands: where a range stands that was made of it at the revision
+abbrev pub land : State → ℕ → Ends → Expand → Empty → Bool → Reaction
+land state revision span expand empty true =
+    replied state (reply.Landed (stand state.editing.loaded.text state.editing.trail expand empty
+    (record { revision = revision; span = span })))
+land state revision span expand empty false = refused state (NotLocked revision (oldest state.locks))
+
 -- what comes of a command: only an edit changes what is edited
 abbrev pub react_command : State → Command → Reaction
 react_command state (Put step) = edited state (edit state.editing step)
@@ -162,6 +195,11 @@ react_command state (MakeRange span expand empty) =
 react_command state (SetRange id span) = set_range state id span (get state.ranges id)
 react_command state (DropRange id) = drop_range state id (get state.ranges id)
 react_command state (ShowRange id) = show_range state id (get state.ranges id)
+react_command state Lock = lock state
+react_command state (Unlock revision) =
+    unlock state revision (has_lock state.locks Editor revision)
+react_command state (Land revision span expand empty) =
+    land state revision span expand empty (can_land_from state revision)
 
 -- what comes of a seat's request
 abbrev pub react : State → ℕ → Request → Reaction

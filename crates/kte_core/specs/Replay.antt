@@ -13,12 +13,13 @@ pub record Session : Type 0 where
   pub limit : ℕ
   pub events : List Event
 
--- the state at first: what was loaded, and no ranges
+-- the state at first: what was loaded, no ranges and no locks
 abbrev pub beginning : Loaded → ℕ → State
 beginning loaded limit = record {
   editing = record { loaded = loaded; limit = limit; trail = [] };
   ranges = empty;
   next_id = 1;
+  locks = [];
 }
 
 -- the state after one event

@@ -20,13 +20,14 @@ range_of standing = record {
 }
 
 -- The document is that of the state: it came from the loaded text by the trail, so its text, its
--- revision and where its ranges stand are those of the state, and it has the same limit, ranges and
--- next number
+-- revision and where its ranges stand are those of the state, and it has the same limit, ranges, next
+-- number and locks
 pub record IsOf (state : State) (document : Document) : Type 0 where
   pub came : CameBy state.editing.loaded.text state.editing.trail document
   pub limit : document.limit ≡ state.editing.limit
   pub ranges : (id : ℕ) → option_map range_of (get document.ranges id) ≡ get state.ranges id
   pub next_id : document.next ≡ state.next_id
+  pub locks : document.locks ≡ state.locks
 
 -- a reply is that of a reaction which makes no primitive, and the document is that of the state
 -- after it

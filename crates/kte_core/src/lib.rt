@@ -5,7 +5,7 @@
 //! core is seen as what it began from and its events; its state is their replay.
 //!
 //! - `session`: the core and its calls, and the edits of the text
-//! - `ranges`: the commands on ranges
+//! - `ranges`, `revisions`: the commands on ranges, and those on revisions
 //! - `request`, `reply`, `event`: what is asked, what is replied, and what is kept of both
 //! - `laws`: what follows from the reaction alone
 //!
@@ -18,11 +18,12 @@ pub mod laws;
 mod ranges;
 mod reply;
 mod request;
+mod revisions;
 mod session;
 #[cfg(test)]
 mod tests;
 
 pub use event::{Event, Journal, Step};
 pub use reply::{Refusal, Reply};
-pub use request::{Command, Request};
+pub use request::Request;
 pub use session::Core;

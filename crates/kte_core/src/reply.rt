@@ -20,6 +20,18 @@ pub enum Reply {
     Dropped {
         id: u64,
     },
+    /// The revision was locked for the editor.
+    Locked {
+        revision: u64,
+    },
+    /// One of the editor's locks on the revision was removed.
+    Unlocked {
+        revision: u64,
+    },
+    /// Where the span is now; without one, a range that was made of it would be invalid.
+    Landed {
+        span: Option<Span>,
+    },
     /// Nothing was changed.
     Refused(Refusal),
 }
@@ -33,4 +45,9 @@ pub enum Refusal {
     RevisionsFull { revision: u64 },
     /// There is no range of this number.
     NoRange { id: u64 },
+    /// The revision is neither locked nor the present one. `oldest` is the oldest locked one, if
+    /// any is.
+    NotLocked { revision: u64, oldest: Option<u64> },
+    /// The editor has no lock on the revision.
+    NotOwned { revision: u64 },
 }

@@ -8,9 +8,10 @@ ghost use Rattle.kte_core.specs.Shown.{IsOf, Meets};
 ghost use Rattle.kte_core.specs.declared.reply.Reply.TheVariants.{Refused};
 
 use crate::event::{Event, Journal, Step};
-use crate::ranges;
 use crate::reply::{Refusal, Reply};
-use crate::request::{Command, Request};
+use crate::request::Request;
+use crate::{ranges, revisions};
+use kte_command::Command;
 use kte_doc::Doc;
 use kte_text::{Batch, Loaded, Primitive, Text, fits};
 use std::alloc::{AllocError, Global};
@@ -135,6 +136,14 @@ fn carry_out(
         Command::SetRange { id, span } => ranges::set(doc, *id, *span)?,
         Command::DropRange { id } => ranges::take_away(doc, *id),
         Command::ShowRange { id } => ranges::show(doc, *id),
+        Command::Lock => revisions::lock(doc)?,
+        Command::Unlock { revision } => revisions::unlock(doc, *revision),
+        Command::Land {
+            revision,
+            span,
+            expand,
+            empty,
+        } => revisions::land(doc, *revision, *span, *expand, *empty),
     };
     Ok(replied(alloc, reply))
 }

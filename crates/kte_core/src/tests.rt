@@ -1,4 +1,5 @@
-use crate::{Command, Core, Event, Journal, Refusal, Reply, Request, Step};
+use crate::{Core, Event, Journal, Refusal, Reply, Request, Step};
+use kte_command::Command;
 use kte_text::{Line, Lines, Misfit, Primitive, load};
 use std::alloc::Global;
 use std::test::Fail;

@@ -1,5 +1,5 @@
 -- A document that was just loaded.
-use Rattle.std.proofs.Common.{◌≡◌, ℕ, List, [], None, Some, ap, ◌∙◌, arith}
+use Rattle.std.proofs.Common.{◌≡◌, ℕ, List, [], None, Some, refl, ap, ◌∙◌, arith}
 use Rattle.std.specs.Ordering.{nat_cmp}
 use Rattle.std.specs.FinMap.{get, empty, get-empty}
 use Rattle.kte_ranges.specs.declared.info.RangeInfo.{RangeInfo}
@@ -32,18 +32,19 @@ CursorsFit-empty hung ranges lines farthest none_hung none = record {
 pub no_standings : (hung : Hung) (ranges : Ranges) → ranges ≡ empty → standings_of hung ranges ≡ empty
 no_standings hung ranges none = ap (λ (m : Ranges). standings_of hung m) none ∙ standings_of-empty hung
 
-pub CameBy-new : (text : List (List ℕ)) (document : Document) → document.text ≡ text → document.revision ≡ 0 → document.ranges ≡ empty → document.next ≡ 1
-    → CameBy text [] document
-CameBy-new text document is revision none next = record {
+pub CameBy-new : (text : List (List ℕ)) (limit : ℕ)
+    → CameBy text [] (record { text = text; revision = 0; limit = limit; ranges = empty; next = 1; locks = []; kept = [] })
+CameBy-new text limit = record {
   fits = tt;
-  text = is;
-  revision = revision;
-  ranges = λ id range there. absurd (nothing id range there);
+  text = refl;
+  revision = refl;
+  ranges = λ id range there. let no = none id in absurd (cc);
   first = omega arith;
-  numbers = λ id some. let no = no_standing id in absurd (grind arith);
+  numbers = λ id some. let no = none id in absurd (grind arith);
+  history = record { revision = refl; kept = refl; locked = λ k lock below. omega arith };
 } where
-  no_standing : (id : ℕ) → get document.ranges id ≡ None
-  no_standing id = ap (λ (m : Standings). get m id) none ∙ get-empty nat_cmp id
+  nothing : Standings
+  nothing = empty
 
-  nothing : (id : ℕ) (range : Standing) → get document.ranges id ≡ Some range → ⊥
-  nothing id range there = let no = ap (λ (m : Standings). get m id) none ∙ get-empty nat_cmp id in cc
+  none : (id : ℕ) → get nothing id ≡ None
+  none id = get-empty nat_cmp id

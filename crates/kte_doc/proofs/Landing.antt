@@ -19,7 +19,8 @@ use Rattle.kte_place.specs.Span.{made, settle, carry_span, ends, start_on, end_o
 use Rattle.kte_place.proofs.CarryLemmas.{stays_in_text, stays_past_text}
 use Rattle.kte_buffer.specs.Entries.{entry}
 use Rattle.kte_buffer.proofs.CallerLemmas.{IsWithin-entry, lines_after-entry}
-use Rattle.kte_doc.specs.Trail.{text_at, entries_of, carry_all, stand, in_text, landed, LandsWhereItStands}
+use Rattle.kte_history.specs.Landing.{carry_all}
+use Rattle.kte_doc.specs.Trail.{text_at, entries_of, stand, in_text, LandsWhereItStands}
 use Rattle.kte_doc.proofs.Trails.{length-entries_of}
 
 -- a span is made where it settles to lines of the text
@@ -80,6 +81,10 @@ entries_of-append (p ∷ ps) qs text = ap (λ es. entry p text ∷ es) (entries_
 FitInTurn-later : (ps qs : List Primitive) (text : List (List ℕ)) → FitInTurn (ps ++ qs) text → FitInTurn qs (after_all ps text)
 FitInTurn-later [] qs text fit = fit
 FitInTurn-later (p ∷ ps) qs text (fits, some, fit) = FitInTurn-later ps qs (after p text) fit
+
+-- where a span lands over these entries in a text of so many lines
+abbrev landed : List Entry → ℕ → Ends → Expand → Empty → Option Ends
+landed entries lines span expand empty = in_text lines (carry_all entries (settle span.start span.end empty) expand empty)
 
 -- with the trail cut at the revision
 lands-at : (loaded : List (List ℕ)) (ps qs : List Primitive) (span : Ends) (expand : Expand) (empty : Empty)

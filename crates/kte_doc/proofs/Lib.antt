@@ -11,3 +11,4 @@ pub mod Calls
 pub mod Looks
 pub mod Beginning
 pub mod Landing
+pub mod Histories

@@ -18,9 +18,14 @@ use Rattle.kte_place.specs.Span.{made, carry_span}
 use Rattle.kte_buffer.specs.Entries.{entry}
 use Rattle.kte_ranges.specs.declared.info.RangeKind.{RangeKind}
 use Rattle.kte_ranges.specs.declared.info.Origin.{Origin}
-use Rattle.kte_doc.specs.Standings.{Standing, new_range, reset_to, moved_over}
-use Rattle.kte_doc.specs.Trail.{text_at, entries_of, carry_all, stand}
-use Rattle.kte_doc.specs.Documents.{Document, StandsBy, CameBy}
+use Rattle.kte_doc.specs.Standings.{Standing, Standings, new_range, reset_to, moved_over}
+use Rattle.kte_place.specs.declared.entry.Entry.{Entry}
+use Rattle.kte_history.specs.Landing.{carry_all}
+use Rattle.kte_history.specs.Revisions.{with_entry}
+use Rattle.kte_history.specs.Laws.{IsHistoryOf}
+use Rattle.kte_history.proofs.KeptLemmas.{adds_to_history}
+use Rattle.kte_doc.specs.Trail.{text_at, entries_of, stand}
+use Rattle.kte_doc.specs.Documents.{Document, StandsBy, CameBy, history_of, kept_further}
 
 entries_of-push : (trail : List Primitive) (p : Primitive) (text : List (List ℕ))
     → entries_of (trail ++ p ∷ []) text ≡ entries_of trail text ++ entry p (after_all trail text) ∷ []
@@ -89,79 +94,78 @@ still_there f None n is some = absurd (grind arith)
 still_there f (Some x) n is some = refl
 
 -- one primitive more
-pub CameBy-primitive : (loaded : List (List ℕ)) (trail : List Primitive) (p : Primitive) (old new : Document) → CameBy loaded trail old
-    → misfit p old.text ≡ None → is_empty p ≡ false
-    → new.text ≡ after p old.text → new.revision ≡ old.revision + 1 → new.next ≡ old.next
-    → ((id : ℕ) → get new.ranges id ≡ option_map (moved_over (entry p old.text)) (get old.ranges id))
-    → CameBy loaded (trail ++ p ∷ []) new
-CameBy-primitive loaded trail p old new came fits changes text revision next ranges = record {
+pub CameBy-primitive : (loaded : List (List ℕ)) (trail : List Primitive) (p : Primitive) (old : Document) (ranges : Standings)
+    → CameBy loaded trail old → misfit p old.text ≡ None → is_empty p ≡ false
+    → ((id : ℕ) → get ranges id ≡ option_map (moved_over (entry p old.text)) (get old.ranges id))
+    → CameBy loaded (trail ++ p ∷ [])
+    (record old { text = after p old.text; revision = old.revision + 1; ranges = ranges; kept = kept_further old (entry p old.text) })
+CameBy-primitive loaded trail p old ranges came fits changes moved = record {
   fits = FitInTurn-append trail (p ∷ []) loaded came.fits (ap (misfit p) (sym came.text) ∙ fits, changes, tt);
-  text = text ∙ ap (after p) came.text ∙ sym (after_all-append trail (p ∷ []) loaded);
-  revision = omega (arith, revision, came.revision, length-append trail (p ∷ []));
+  text = ap (after p) came.text ∙ sym (after_all-append trail (p ∷ []) loaded);
+  revision = omega (arith, came.revision, length-append trail (p ∷ []));
   ranges = λ id range there.
-      let was = changed (moved_over (entry p old.text)) (get old.ranges id) (get new.ranges id) range (ranges id) there in
+      let was = changed (moved_over (entry p old.text)) (get old.ranges id) (get ranges id) range (moved id) there in
       let same : moved_over (entry p (after_all trail loaded)) was.0 ≡ range =
       ap (λ text. moved_over (entry p text) was.0) (sym came.text) ∙ sym was.1.1 in
       subst (StandsBy loaded (trail ++ p ∷ [])) same (StandsBy-push loaded trail p was.0 (came.ranges id was.0 was.1.0));
-  first = omega (arith, came.first, next);
+  first = came.first;
   numbers = λ id there.
-      let below = came.numbers id (still_there (moved_over (entry p old.text)) (get old.ranges id) (get new.ranges id) (ranges id) there) in
-      (below.0, omega (arith, below.1, next));
+      came.numbers id (still_there (moved_over (entry p old.text)) (get old.ranges id) (get ranges id) (moved id) there);
+  history =
+      let one : entries_of (trail ++ p ∷ []) loaded ≡ entries_of trail loaded ++ entry p old.text ∷ [] =
+      entries_of-push trail p loaded ∙ ap (λ (text : List (List ℕ)). entries_of trail loaded ++ entry p text ∷ []) (sym came.text) in
+      subst (λ (entries : List Entry). IsHistoryOf entries (record (with_entry (entry p old.text) (history_of old)) { reserved = 0 })) (sym one)
+      (adds_to_history (entries_of trail loaded) (history_of old) (entry p old.text) 0 came.history);
 }
 
 -- one range more, or one that is set
-CameBy-insert : (loaded : List (List ℕ)) (trail : List Primitive) (old new : Document) (id : ℕ) (range : Standing) → CameBy loaded trail old
-    → new.text ≡ old.text → new.revision ≡ old.revision → new.ranges ≡ insert old.ranges id range → StandsBy loaded trail range
-    → 1 ≤ id → id < new.next → old.next ≤ new.next → CameBy loaded trail new
-CameBy-insert loaded trail old new id range came text revision ranges stands one below rising = record {
+CameBy-insert : (loaded : List (List ℕ)) (trail : List Primitive) (old : Document) (id next : ℕ) (range : Standing) → CameBy loaded trail old
+    → StandsBy loaded trail range → 1 ≤ id → id < next → old.next ≤ next
+    → CameBy loaded trail (record old { ranges = insert old.ranges id range; next = next })
+CameBy-insert loaded trail old id next range came stands one below rising = record {
   fits = came.fits;
-  text = text ∙ came.text;
-  revision = revision ∙ came.revision;
+  text = came.text;
+  revision = came.revision;
   ranges = λ q other there.
-      let at : get (insert old.ranges id range) q ≡ Some other = ap (λ m. get m q) (sym ranges) ∙ there in
       elim (cases_eq q id) [
         | inl here ↦ let same : range ≡ other = grind (arith, nat_tests, gets) in subst (StandsBy loaded trail) same stands
         | inr apart ↦ came.ranges q other (grind (arith, nat_tests, gets))
       ];
   first = omega (arith, came.first);
   numbers = λ q there.
-      let at : IsSome (get (insert old.ranges id range) q) = subst (λ m. IsSome (get m q)) ranges there in
       elim (cases_eq q id) [
         | inl here ↦ (omega arith, omega arith)
         | inr apart ↦ let was = came.numbers q (grind (arith, nat_tests, gets)) in (was.0, omega (arith, was.1))
       ];
+  history = came.history;
 }
 
 -- a range that is made
-pub CameBy-make : (loaded : List (List ℕ)) (trail : List Primitive) (old new : Document) (span : Ends) (expand : Expand) (empty : Empty) (kind : RangeKind)
-    → CameBy loaded trail old → new.text ≡ old.text → new.revision ≡ old.revision → new.next ≡ old.next + 1
-    → new.ranges ≡ insert old.ranges old.next (new_range old.text old.revision span expand empty kind) → CameBy loaded trail new
-CameBy-make loaded trail old new span expand empty kind came text revision next ranges =
-    CameBy-insert loaded trail old new old.next (new_range old.text old.revision span expand empty kind) came text revision ranges
+pub CameBy-make : (loaded : List (List ℕ)) (trail : List Primitive) (old : Document) (span : Ends) (expand : Expand) (empty : Empty) (kind : RangeKind)
+    → CameBy loaded trail old
+    → CameBy loaded trail (record old { ranges = insert old.ranges old.next (new_range old.text old.revision span expand empty kind); next = old.next + 1 })
+CameBy-make loaded trail old span expand empty kind came =
+    CameBy-insert loaded trail old old.next (old.next + 1) (new_range old.text old.revision span expand empty kind) came
     (StandsBy-new loaded trail old span expand empty kind came) came.first (omega arith) (omega arith)
 
 -- a range that is set
-pub CameBy-set : (loaded : List (List ℕ)) (trail : List Primitive) (old new : Document) (id : ℕ) (span : Ends) (range : Standing)
-    → CameBy loaded trail old → get old.ranges id ≡ Some range → new.text ≡ old.text → new.revision ≡ old.revision → new.next ≡ old.next
-    → new.ranges ≡ insert old.ranges id (reset_to old.text old.revision span range) → CameBy loaded trail new
-CameBy-set loaded trail old new id span range came there text revision next ranges =
+pub CameBy-set : (loaded : List (List ℕ)) (trail : List Primitive) (old : Document) (id : ℕ) (span : Ends) (range : Standing)
+    → CameBy loaded trail old → get old.ranges id ≡ Some range
+    → CameBy loaded trail (record old { ranges = insert old.ranges id (reset_to old.text old.revision span range) })
+CameBy-set loaded trail old id span range came there =
     let number = came.numbers id (subst (λ o. IsSome o) (sym there) refl) in
-    CameBy-insert loaded trail old new id (reset_to old.text old.revision span range) came text revision ranges
+    CameBy-insert loaded trail old id old.next (reset_to old.text old.revision span range) came
     (StandsBy-new loaded trail old span range.expand range.empty range.kind came) number.0 (omega (arith, number.1)) (omega arith)
 
 -- a range that is dropped
-pub CameBy-drop : (loaded : List (List ℕ)) (trail : List Primitive) (old new : Document) (id : ℕ)
-    → CameBy loaded trail old → new.text ≡ old.text → new.revision ≡ old.revision → new.next ≡ old.next
-    → new.ranges ≡ remove old.ranges id → CameBy loaded trail new
-CameBy-drop loaded trail old new id came text revision next ranges = record {
+pub CameBy-drop : (loaded : List (List ℕ)) (trail : List Primitive) (old : Document) (id : ℕ)
+    → CameBy loaded trail old → CameBy loaded trail (record old { ranges = remove old.ranges id })
+CameBy-drop loaded trail old id came = record {
   fits = came.fits;
-  text = text ∙ came.text;
-  revision = revision ∙ came.revision;
-  ranges = λ q other there.
-      let at : get (remove old.ranges id) q ≡ Some other = ap (λ m. get m q) (sym ranges) ∙ there in
-      came.ranges q other (grind (arith, nat_tests, gets));
-  first = omega (arith, came.first);
-  numbers = λ q there.
-      let at : IsSome (get (remove old.ranges id) q) = subst (λ m. IsSome (get m q)) ranges there in
-      let was = came.numbers q (grind (arith, nat_tests, gets)) in (was.0, omega (arith, was.1));
+  text = came.text;
+  revision = came.revision;
+  ranges = λ q other there. came.ranges q other (grind (arith, nat_tests, gets));
+  first = came.first;
+  numbers = λ q there. came.numbers q (grind (arith, nat_tests, gets));
+  history = came.history;
 }

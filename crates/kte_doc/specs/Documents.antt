@@ -4,9 +4,15 @@ use Rattle.std.specs.Prelude.{◌≡◌, ℕ, ◌≤◌, List, [], ◌∷◌, �
 use Rattle.std.specs.Coded.{Coded, code_by, coded×, coded_list, coded_ℕ}
 use Rattle.kte_text.specs.Primitives.{after_all, FitInTurn}
 use Rattle.kte_text.specs.declared.primitive.Primitive.{Primitive}
+use Rattle.kte_place.specs.contracts.entry.Entry as entry_contract
+use Rattle.kte_place.specs.declared.entry.Entry.{Entry}
+use Rattle.kte_history.specs.contracts.lock.Lock as lock_contract
+use Rattle.kte_history.specs.declared.lock.Lock.{Lock}
+use Rattle.kte_history.specs.Revisions.{Revisions, with_entry}
+use Rattle.kte_history.specs.Laws.{IsHistoryOf}
 use Rattle.kte_ranges.specs.Table.{NumbersBelow}
 use Rattle.kte_doc.specs.Standings.{Standing, Standings, AllStandings, standings_code}
-use Rattle.kte_doc.specs.Trail.{stand}
+use Rattle.kte_doc.specs.Trail.{entries_of, stand}
 
 -- what a `Doc` holds
 pub record Document : Type 0 where
@@ -20,6 +26,24 @@ pub record Document : Type 0 where
   pub ranges : Standings
   -- the number that the next range gets
   pub next : ℕ
+  -- the locks on revisions, in the order in which they were taken
+  pub locks : List Lock
+  -- the entries since the oldest locked revision, and none if nothing is locked
+  pub kept : List Entry
+
+-- the history of a document: how many further entries there is room for is not seen
+abbrev pub history_of : Document → Revisions
+history_of document = record {
+  kept = document.kept;
+  locks = document.locks;
+  revision = document.revision;
+  limit = document.limit;
+  reserved = 0;
+}
+
+-- the entries that are kept after one more
+abbrev pub kept_further : Document → Entry → List Entry
+kept_further document entry = (with_entry entry (history_of document)).kept
 
 -- the range was made or last set at a revision of the trail, and is where the trail puts it
 pub record StandsBy (loaded : List (List ℕ)) (trail : List Primitive) (standing : Standing)
@@ -28,7 +52,8 @@ pub record StandsBy (loaded : List (List ℕ)) (trail : List Primitive) (standin
   pub span : standing.span ≡ stand loaded trail standing.expand standing.empty standing.origin
 
 -- The document came from the loaded text by the primitives of the trail, each of which fitted: its
--- text is the one after them, and every range is where the trail puts it
+-- text is the one after them, every range is where the trail puts it, and the entries since the oldest
+-- locked revision are kept
 pub record CameBy (loaded : List (List ℕ)) (trail : List Primitive) (document : Document)
     : Type 0 where
   pub fits : FitInTurn trail loaded
@@ -37,6 +62,7 @@ pub record CameBy (loaded : List (List ℕ)) (trail : List Primitive) (document 
   pub ranges : AllStandings (StandsBy loaded trail) document.ranges
   pub first : 1 ≤ document.next
   pub numbers : NumbersBelow document.next document.ranges
+  pub history : IsHistoryOf (entries_of trail loaded) (history_of document)
 
 -- a change of the document that makes no primitive
 abbrev pub KeepsTrail : Document → Document → Type 0
@@ -52,8 +78,17 @@ ExtendsTrail primitive old new =
 -- a document is stored as the tuple of its fields
 abbrev pub document_code : Coded Document
 document_code =
-    code_by (List (List ℕ) × (ℕ × (ℕ × (Standings × ℕ))))
-    (coded× (coded_list (coded_list coded_ℕ)) (coded× coded_ℕ (coded× coded_ℕ (coded× standings_code coded_ℕ))))
-    (λ d. (d.text, (d.revision, (d.limit, (d.ranges, d.next)))))
-    (λ t. record { text = t.0; revision = t.1.0; limit = t.1.1.0; ranges = t.1.1.1.0; next = t.1.1.1.1 })
+    code_by (List (List ℕ) × (ℕ × (ℕ × (Standings × (ℕ × (List Lock × List Entry))))))
+    (coded× (coded_list (coded_list coded_ℕ)) (coded× coded_ℕ (coded× coded_ℕ (coded× standings_code (coded× coded_ℕ
+    (coded× (coded_list lock_contract.the_row.coded) (coded_list entry_contract.the_row.coded)))))))
+    (λ d. (d.text, (d.revision, (d.limit, (d.ranges, (d.next, (d.locks, d.kept)))))))
+    (λ t. record {
+      text = t.0;
+      revision = t.1.0;
+      limit = t.1.1.0;
+      ranges = t.1.1.1.0;
+      next = t.1.1.1.1.0;
+      locks = t.1.1.1.1.1.0;
+      kept = t.1.1.1.1.1.1;
+    })
     (λ _. refl)

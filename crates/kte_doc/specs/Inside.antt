@@ -34,10 +34,12 @@ standings_of hung ranges = from_sorted (map (λ e. (e.0, standing_of hung e.1)) 
 abbrev pub document_of : Inside → Document
 document_of doc = record {
   text = doc.buffer.text;
-  revision = doc.revision;
-  limit = doc.limit;
+  revision = doc.history.revision;
+  limit = doc.history.limit;
   ranges = standings_of doc.buffer.hung doc.ranges.ranges;
   next = doc.ranges.next;
+  locks = doc.history.locks;
+  kept = doc.history.kept;
 }
 
 -- the greatest column at a revision: each primitive moves a place by at most the greatest size
@@ -67,6 +69,6 @@ pub record CursorsFit (hung : Hung) (ranges : Ranges) (lines farthest : ℕ) : T
 
 -- no more primitives were made than may be, and the cursors are those of the ranges
 pub record IsSound (doc : Inside) : Type 0 where
-  pub within : doc.revision ≤ doc.limit
-  pub small : doc.limit ≤ 2 ^ 31
-  pub cursors : CursorsFit doc.buffer.hung doc.ranges.ranges (length doc.buffer.text) (farthest_at doc.revision)
+  pub within : doc.history.revision ≤ doc.history.limit
+  pub small : doc.history.limit ≤ 2 ^ 31
+  pub cursors : CursorsFit doc.buffer.hung doc.ranges.ranges (length doc.buffer.text) (farthest_at doc.history.revision)

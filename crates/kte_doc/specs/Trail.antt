@@ -1,13 +1,14 @@
 -- The trail of a document, all primitives since loading, and where a range is after it. The revision
 -- is the length of the trail (KTextEditor's moving interface, whose revisions count in the same way).
-use Rattle.std.specs.Prelude.{◌≡◌, ◌≤◌, ◌&&◌, ℕ, List, [], ◌∷◌, length, take, drop, fold, nat_lt, Option, None, Some, if◌then◌else◌}
+use Rattle.std.specs.Prelude.{◌≡◌, ◌≤◌, ◌&&◌, ℕ, List, [], ◌∷◌, length, take, drop, nat_lt, Option, None, Some, if◌then◌else◌}
 use Rattle.kte_text.specs.Primitives.{after, after_all, FitInTurn}
 use Rattle.kte_text.specs.declared.primitive.Primitive.{Primitive}
 use Rattle.kte_place.specs.declared.span.Expand.{Expand}
 use Rattle.kte_place.specs.declared.span.Empty.{Empty}
 use Rattle.kte_place.specs.declared.entry.Entry.{Entry}
 use Rattle.kte_place.specs.Ends.{Ends}
-use Rattle.kte_place.specs.Span.{made, settle, carry_span}
+use Rattle.kte_place.specs.Span.{made, settle}
+use Rattle.kte_history.specs.Landing.{carry_all}
 use Rattle.kte_buffer.specs.Entries.{entry}
 use Rattle.kte_ranges.specs.declared.info.Origin.{Origin}
 
@@ -19,10 +20,6 @@ text_at loaded trail revision = after_all (take revision trail) loaded
 abbrev pub entries_of : List Primitive → List (List ℕ) → List Entry
 entries_of [] text = []
 entries_of (primitive ∷ trail) text = entry primitive text ∷ entries_of trail (after primitive text)
-
--- a span carried over one entry after another, and settled after each
-abbrev pub carry_all : List Entry → Option Ends → Expand → Empty → Option Ends
-carry_all entries span expand empty = fold (λ span entry. carry_span entry span expand empty) span entries
 
 -- Where a range is after the trail: made in the text at its origin's revision, and then carried over
 -- all later entries
@@ -37,17 +34,13 @@ in_text lines None = None
 in_text lines (Some span) =
     if nat_lt span.start.line lines && nat_lt span.end.line lines then Some span else None
 
--- Where a span lands that was read at an earlier revision, by the entries since then alone: settled,
--- carried over each and settled after each, and invalid if a line of it is not in the present text,
--- which has so many lines. A law says that a range made at that revision is just there
-abbrev pub landed : List Entry → ℕ → Ends → Expand → Empty → Option Ends
-landed entries lines span expand empty =
-    in_text lines (carry_all entries (settle span.start span.end empty) expand empty)
-
--- landing from a revision and a range that was made at it agree
+-- A span lands, from the entries since its revision alone, where a range is that was made of it at
+-- that revision: it is settled, carried over each entry and settled after each, and is invalid if a
+-- line of it is not in the present text
 abbrev pub LandsWhereItStands : Type 0
 LandsWhereItStands =
     (loaded : List (List ℕ)) (trail : List Primitive) (revision : ℕ) (span : Ends) (expand : Expand)
     (empty : Empty) → FitInTurn trail loaded → revision ≤ length trail
-    → landed (drop revision (entries_of trail loaded)) (length (after_all trail loaded)) span expand empty
+    → in_text (length (after_all trail loaded))
+    (carry_all (drop revision (entries_of trail loaded)) (settle span.start span.end empty) expand empty)
     ≡ stand loaded trail expand empty (record { revision = revision; span = span })

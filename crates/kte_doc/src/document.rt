@@ -1,15 +1,18 @@
-ghost use Rattle.std.specs.Prelude.{◌≡◌, ℕ, ◌+◌, ◌^◌, ◌<◌, ◌≤◌, [], ◌∷◌, ◌++◌, false, length, None, Some, Err, IfSome, IfOk, IsOk, OnOk, OnErr, IsErrOf};
+ghost use Rattle.std.specs.Prelude.{◌≡◌, ℕ, ◌+◌, ◌^◌, ◌<◌, ◌≤◌, [], ◌∷◌, ◌++◌, false, length, None, Some, Ok, Err, nat_le, if◌then◌else◌, IfSome, IfOk, IsOk, OnOk, OnErr, IsErrOf};
 ghost use Rattle.std.specs.Option.{ok_or, option_map};
 ghost use Rattle.std.specs.List.Sorted.{IsStrictlyIncreasing};
 ghost use Rattle.std.specs.FinMap as map;
 ghost use Rattle.kte_text.specs.Primitives.{HasEnd, is_empty, misfit, after};
 ghost use Rattle.kte_place.specs.Span.{made};
 ghost use Rattle.kte_buffer.specs.Entries.{entry};
+ghost use Rattle.kte_history.specs.Locks.{oldest, has_lock, unlocked};
+ghost use Rattle.kte_history.specs.Revisions.{kept_since, can_land, landed};
 ghost use Rattle.kte_ranges.specs.Table.{NumbersBelow};
 
 use crate::cursors::{hang, unhang};
 use crate::fault::{DocFault, SetFault};
 use kte_buffer::Buffer;
+use kte_history::{History, NotLocked, NotOwned, Owner, RevisionsFull};
 use kte_place::{Cursors, Empty, Entry, Expand, Span, Spanned};
 use kte_ranges::{NoRange, Origin, RangeInfo, RangeKind, RangeTable};
 use kte_text::{Lines, Primitive, Text};
@@ -26,9 +29,7 @@ use std::marker::Model;
 pub struct Doc {
     buffer: Buffer,
     ranges: RangeTable,
-    revision: u64,
-    // The greatest revision.
-    limit: u64,
+    history: History,
 }
 
 impl Model for Doc {
@@ -46,7 +47,8 @@ impl Model for Doc {
 }
 
 impl Doc {
-    ghost use Rattle.kte_doc.specs.Documents.{CameBy, KeepsTrail, ExtendsTrail};
+    ghost use Rattle.kte_doc.specs.Documents.{CameBy, KeepsTrail, ExtendsTrail, history_of, kept_further};
+    ghost use Rattle.kte_doc.specs.Trail.{in_text, stand};
     ghost use Rattle.kte_doc.specs.Standings.{SpanIsInReach, Tells, new_range, reset_to, moved_over};
 
     /// Returns the document of a loaded text, at revision 0 and without ranges, whose revision can
@@ -59,14 +61,15 @@ impl Doc {
           limit = limit;
           ranges = map.empty;
           next = 1;
+          locks = [];
+          kept = [];
         }) }
         ensures came { IfOk result (CameBy text []) }
     {
         Ok(Doc {
             buffer: Buffer::new(alloc, text)?,
             ranges: RangeTable::new(alloc),
-            revision: 0,
-            limit,
+            history: History::new(alloc, limit),
         })
     }
 
@@ -83,6 +86,7 @@ impl Doc {
           text = after primitive.now self.old.text;
           revision = self.old.revision + 1;
           ranges = self.new.ranges;
+          kept = kept_further self.old (entry primitive.now self.old.text);
         }) }
         ensures ranges { OnOk result ((id : ℕ) → map.get self.new.ranges id
             ≡ option_map (moved_over (entry primitive.now self.old.text))
@@ -106,17 +110,20 @@ impl Doc {
         if let Err(misfit) = self.buffer.fits(primitive) {
             return Err(DocFault::Misfit(misfit));
         }
-        if self.revision >= self.limit {
-            return Err(DocFault::RevisionsFull {
-                revision: self.revision,
-            });
+        if let Err(RevisionsFull { revision }) = self.history.room(1) {
+            return Err(DocFault::RevisionsFull { revision });
+        }
+        // A text has at most the greatest size, which bounds the lengths of the entry.
+        let _lines = self.buffer.lines();
+        if self.history.reserve().is_err() {
+            return Err(DocFault::NoMemory);
         }
         if self.buffer.reserve(primitive).is_err() {
             return Err(DocFault::NoMemory);
         }
         let entry = self.buffer.apply(primitive);
         self.ranges.settle(&mut self.buffer);
-        self.revision += 1;
+        self.history.add(entry);
         Ok(entry)
     }
 
@@ -144,7 +151,7 @@ impl Doc {
         self.ranges.reserve(1)?;
         let cursors = hang(&mut self.buffer, span, expand, empty)?;
         let origin = Origin {
-            revision: self.revision,
+            revision: self.history.revision(),
             span,
         };
         let info = RangeInfo {
@@ -183,7 +190,7 @@ impl Doc {
             return Err(SetFault::NoMemory);
         };
         let origin = Origin {
-            revision: self.revision,
+            revision: self.history.revision(),
             span,
         };
         let _ = self.ranges.set(id, origin, cursors);
@@ -255,7 +262,99 @@ impl Doc {
         ensures within { self.now.revision ≤ self.now.limit }
         ensures small { self.now.limit ≤ 2 ^ 31 }
     {
-        self.revision
+        self.history.revision()
+    }
+
+    /// Fails if the revision cannot rise by `n`.
+    pub fn room(&self, n: u64) -> Result<(), RevisionsFull>
+        ensures { result ≡ (if nat_le (self.now.revision + n) self.now.limit
+            then Ok tt else Err (record { revision = self.now.revision })) }
+    {
+        self.history.room(n)
+    }
+
+    /// Returns the entries that are kept: those since the oldest locked revision, and none if nothing
+    /// is locked.
+    pub fn stored(&self) -> &[Entry]
+        ensures { result.now ≡ self.now.kept }
+    {
+        self.history.stored()
+    }
+
+    /// Locks the present revision for its owner, and returns it: until it is unlocked, spans of the
+    /// text at this revision can be landed. It may be locked more than once, as by KTextEditor's
+    /// `lockRevision`. Fails if out of memory; then nothing has changed.
+    pub fn lock(&mut self, owner: Owner) -> Result<u64, AllocError>
+        ensures revision { IfOk result (λ revision. revision ≡ self.old.revision) }
+        ensures ok { OnOk result (self.new ≡ record self.old {
+          locks = self.old.locks ++ record { owner = owner; revision = self.old.revision } ∷ [];
+        }) }
+        ensures trail { KeepsTrail self.old self.new }
+        ensures err { OnErr result (self.new ≡ self.old) }
+    {
+        let revision = self.history.lock(owner)?;
+        Ok(revision)
+    }
+
+    /// Removes one lock of the owner on a revision. Fails if there is none.
+    pub fn unlock(&mut self, owner: Owner, revision: u64) -> Result<(), NotOwned>
+        ensures owned { result ≡ (if has_lock self.old.locks owner revision
+            then Ok tt else Err (record { revision = revision })) }
+        ensures ok { OnOk result (self.new ≡ record self.old {
+          locks = unlocked self.old.locks owner revision;
+          kept = kept_since self.old.revision
+              (oldest (unlocked self.old.locks owner revision)) self.old.kept;
+        }) }
+        ensures trail { KeepsTrail self.old self.new }
+        ensures err { OnErr result (self.new ≡ self.old) }
+    {
+        self.history.unlock(owner, revision)?;
+        Ok(())
+    }
+
+    /// Returns where a span of the text at a revision is in the present text, or `None` if a range
+    /// that was made there would be invalid now. This does not allocate. Fails if the revision is
+    /// neither locked nor the present one.
+    pub fn land(
+        &self,
+        revision: u64,
+        span: Span,
+        expand: Expand,
+        empty: Empty,
+    ) -> Result<Option<Span>, NotLocked>
+        requires { SpanIsInReach span }
+        ensures stands { (loaded trail : _) → CameBy loaded trail self.now
+            → IfOk result (λ landed. landed ≡ stand loaded trail expand empty
+            (record { revision = revision; span = span })) }
+        ensures landed { result ≡ (if can_land (history_of self.now) revision
+            then Ok (in_text (length self.now.text)
+            (landed (history_of self.now) revision span expand empty))
+            else Err (record { revision = revision; oldest = oldest self.now.locks })) }
+    {
+        let landed = self.carried(revision, span, expand, empty)?;
+        Ok(landed)
+    }
+
+    /// Carries a span of the text at a revision over the entries since then, and returns it if its
+    /// lines are in the present text.
+    fn carried(
+        &self,
+        revision: u64,
+        span: Span,
+        expand: Expand,
+        empty: Empty,
+    ) -> Result<Option<Span>, NotLocked>
+        requires { SpanIsInReach span }
+        ensures { result ≡ (if can_land (history_of self.now) revision
+            then Ok (in_text (length self.now.text)
+            (landed (history_of self.now) revision span expand empty))
+            else Err (record { revision = revision; oldest = oldest self.now.locks })) }
+    {
+        let lines = self.buffer.lines();
+        match self.history.carry_span(revision, span, expand, empty)? {
+            Some(span) if span.start.line < lines && span.end.line < lines => Ok(Some(span)),
+            _ => Ok(None),
+        }
     }
 
     /// Returns a copy of the present text. Fails if out of memory.

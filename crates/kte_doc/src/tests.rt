@@ -2,6 +2,7 @@ ghost use Rattle.std.specs.Prelude.{◌≡◌};
 ghost use Rattle.kte_doc.specs.Standings.{SpanIsInReach};
 
 use crate::{Doc, DocFault, SetFault};
+use kte_history::{NotLocked, NotOwned, Owner};
 use kte_place::{Empty, Expand, Place, Span};
 use kte_ranges::{NoRange, RangeKind};
 use kte_text::{Lines, Misfit, Primitive, load};
@@ -103,6 +104,29 @@ fn a_range_from_beyond_its_line_is_emptied_by_a_join(rt: HostRuntime) -> Result<
     assert_eq!(rt; doc.range(allowed), Ok(Some(emptied)));
     assert_eq!(rt; doc.range(void), Ok(None));
     assert_eq!(rt; doc.info(void).and_then(|info| info.cursors), None);
+    Ok(())
+}
+
+#[test]
+fn a_span_lands_where_a_range_is(rt: HostRuntime) -> Result<(), Fail> {
+    let mut doc = document(rt.alloc(), b"abc\nde")?;
+    let across = Span::new(at(0, 10), at(1, 2));
+    assert_eq!(rt; doc.lock(Owner::Editor)?, 0);
+    doc.primitive(&Primitive::Unwrap { line: 1 })?;
+    let emptied = Span::new(at(0, 10), at(0, 10));
+    assert_eq!(rt;
+        doc.land(0, across, NEITHER, Empty::Allow),
+        Ok(Some(emptied))
+    );
+    assert_eq!(rt; doc.land(0, across, NEITHER, Empty::Void), Ok(None));
+    assert_eq!(rt; doc.stored().len(), 1);
+    assert_eq!(rt; doc.unlock(Owner::Editor, 0), Ok(()));
+    let free = NotLocked {
+        revision: 0,
+        oldest: None,
+    };
+    assert_eq!(rt; doc.land(0, across, NEITHER, Empty::Allow), Err(free));
+    assert_eq!(rt; doc.unlock(Owner::Editor, 0), Err(NotOwned { revision: 0 }));
     Ok(())
 }
 

@@ -4,4 +4,8 @@ pub mod Search
 pub mod Settled
 pub mod Tables
 pub mod Coming
+pub mod StartLemmas
+pub mod NearLemmas
+pub mod FitLemmas
+pub mod Untouched
 pub mod Pegs

@@ -12,7 +12,8 @@ use Rattle.std.specs.FinMap.Entries.{below_all}
 use Rattle.std.specs.Cmp.{nat_cmp_total}
 use Rattle.kte_ranges.specs.declared.info.RangeInfo.{RangeInfo}
 use Rattle.kte_ranges.specs.Table.{NumbersBelow}
-use Rattle.kte_ranges.specs.Rows.{Rows, IsRising, IsAt}
+use Rattle.kte_ranges.specs.Starts.{Rows}
+use Rattle.kte_ranges.specs.Rows.{IsRising, IsAt}
 
 -- no row before place i has the number
 abbrev pub NotBefore : Rows → ℕ → ℕ → Type 0

@@ -38,7 +38,7 @@ at_own_place None a at_a = refl
 at_own_place (Some h) a at_a = grind arith
 
 -- the two pairs of cursors of one range
-same_pair : (info : RangeInfo) (c d : ℕ × ℕ) → info.cursors ≡ Some c → info.cursors ≡ Some d → c ≡ d
+pub same_pair : (info : RangeInfo) (c d : ℕ × ℕ) → info.cursors ≡ Some c → info.cursors ≡ Some d → c ≡ d
 same_pair info c d is at = grind arith
 
 -- a range that becomes invalid

@@ -9,7 +9,8 @@ use Rattle.std.specs.Cmp.{nat_cmp_total}
 use Rattle.std.proofs.lemmas.Cmp.{ranked}
 use Rattle.std.proofs.lemmas.Bool.{cases_lt}
 use Rattle.std.proofs.lemmas.Bool.Decides.{nat_tests}
-use Rattle.kte_ranges.specs.Rows.{Rows, IsRising, IsAt}
+use Rattle.kte_ranges.specs.Starts.{Rows}
+use Rattle.kte_ranges.specs.Rows.{IsRising, IsAt}
 use Rattle.kte_ranges.proofs.Numbers.{find_absent}
 
 module _ (rows : Rows) (rising : IsRising rows) (id : ℕ) where

@@ -9,7 +9,8 @@ use Rattle.std.specs.FinMap.{get}
 use Rattle.kte_ranges.specs.declared.info.RangeInfo.{RangeInfo}
 use Rattle.kte_ranges.specs.Cursors.{Hung, is_among, holds_cursor, ends_at, span_of, Hangs, HoldsTwo, StartIsReady}
 use Rattle.kte_ranges.specs.Settling.{settled, settled_span, settled_info, cursors_kept, CursorsFollow}
-use Rattle.kte_ranges.specs.Rows.{Rows, ShareNone, settled_row}
+use Rattle.kte_ranges.specs.Starts.{Rows}
+use Rattle.kte_ranges.specs.Rows.{ShareNone, settled_row}
 
 -- the cursors of the range hang alike
 abbrev pub HangAlike : Hung → Hung → RangeInfo → Type 0
@@ -48,20 +49,20 @@ pub second_is_held : (info : RangeInfo) (c : ℕ × ℕ) → info.cursors ≡ So
 second_is_held info c is = rw is (grind (arith, nat_tests))
 
 -- the cursors hung alike before they followed
-follow_from : (old mid new : Hung) (info : RangeInfo) → HangAlike old mid info → CursorsFollow mid new info → CursorsFollow old new info
+pub follow_from : (old mid new : Hung) (info : RangeInfo) → HangAlike old mid info → CursorsFollow mid new info → CursorsFollow old new info
 follow_from old mid new info alike follow = record {
   start = λ c is. rw (← settled_alike old mid info alike, ← alike c.0 (first_is_held info c is)) (follow.start c is);
   end = λ c is. rw (← settled_alike old mid info alike, ← alike c.1 (second_is_held info c is)) (follow.end c is);
 }
 
 -- the cursors hang alike after they followed
-follow_to : (old mid new : Hung) (info : RangeInfo) → CursorsFollow old mid info → HangAlike mid new info → CursorsFollow old new info
+pub follow_to : (old mid new : Hung) (info : RangeInfo) → CursorsFollow old mid info → HangAlike mid new info → CursorsFollow old new info
 follow_to old mid new info follow alike = record {
   start = λ c is. alike c.0 (first_is_held info c is) ∙ follow.start c is;
   end = λ c is. alike c.1 (second_is_held info c is) ∙ follow.end c is;
 }
 
-held_apart : (a b : Bool) → (IsTrue a → b ≡ false) → IsTrue b → a ≡ false
+pub held_apart : (a b : Bool) → (IsTrue a → b ≡ false) → IsTrue b → a ≡ false
 held_apart true b apart held = absurd (grind (arith, apart refl))
 held_apart false b apart held = refl
 

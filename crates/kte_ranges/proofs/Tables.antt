@@ -15,7 +15,11 @@ use Rattle.kte_ranges.specs.declared.info.RangeInfo.{RangeInfo}
 use Rattle.kte_ranges.specs.Table.{Ranges, AllInfos}
 use Rattle.kte_ranges.specs.Cursors.{Hung, is_among, holds_cursor, ends_at, span_of, Hangs, CursorsHang, CursorsApart}
 use Rattle.kte_ranges.specs.Settling.{settled, settled_span, settled_info, cursors_kept, CursorsFollow}
-use Rattle.kte_ranges.specs.Rows.{Rows, IsRising, RowsFit, ShareNone, settled_row}
+use Rattle.kte_ranges.specs.Starts.{Rows}
+use Rattle.kte_ranges.specs.declared.starts.Starts.{Starts}
+use Rattle.kte_ranges.specs.Starts.{LeadTo}
+use Rattle.std.proofs.lemmas.List.Elements.{All-map, All-weaker}
+use Rattle.kte_ranges.specs.Rows.{IsRising, RowsFit, ShareNone, settled_row}
 use Rattle.kte_ranges.proofs.Numbers.{found}
 use Rattle.kte_ranges.proofs.Settled.{first_is_held, second_is_held}
 
@@ -46,7 +50,7 @@ ranges_settled hung rows q =
     ∙ ap (option_map (settled_info hung)) (sym (get-from_entries nat_cmp_total rows q))
 
 module _ (rows : Rows) (rising : IsRising rows) where
-  at_its_place : (k : ℕ) (d : ℕ × RangeInfo) → k < length rows
+  pub at_its_place : (k : ℕ) (d : ℕ × RangeInfo) → k < length rows
       → get (from_entries {R = nat_cmp} rows) (get_or rows k d).0 ≡ Some (get_or rows k d).1
   at_its_place k d lt =
       found rows rising (get_or rows k d).0 k
@@ -68,8 +72,12 @@ number_settled : (hung : Hung) (rows : Rows) (k : ℕ) (d : ℕ × RangeInfo) �
     → (get_or (map (settled_row hung) rows) k d).0 ≡ (get_or rows k d).0
 number_settled hung rows k d lt = ap (λ row. row.0) (get_or-map (settled_row hung) rows k d d lt)
 
-pub fits_settled : (hung : Hung) (rows : Rows) (next : ℕ) → RowsFit rows next → RowsFit (map (settled_row hung) rows) next
-fits_settled hung rows next fit = record {
+pub kept_pair : (s : Option Ends) (o : Option (ℕ × ℕ)) (c : ℕ × ℕ) → cursors_kept s o ≡ Some c → o ≡ Some c
+kept_pair None o c is = absurd (grind arith)
+kept_pair (Some s) o c is = is
+
+pub fits_settled : (hung : Hung) (rows : Rows) (next : ℕ) (starts : Starts) → RowsFit rows next starts → RowsFit (map (settled_row hung) rows) next starts
+fits_settled hung rows next starts fit = record {
   rising = λ i j d lt in_range.
       let last : j < length rows = rw length-map at in_range in
       rw (number_settled hung rows i d (omega arith), number_settled hung rows j d last) (fit.rising i j d lt last);
@@ -78,6 +86,11 @@ fits_settled hung rows next fit = record {
       rw (number_settled hung rows k d inside) (fit.numbers k d inside);
   first = fit.first;
   bound = fit.bound;
+  led = λ near. All-map (LeadTo starts.ids.items) (settled_row hung) rows
+      (All-weaker (LeadTo starts.ids.items) (λ row. LeadTo starts.ids.items (settled_row hung row)) (λ row leads. record {
+        inside = λ c is. leads.inside c (kept_pair (settled_span hung row.1) row.1.cursors c is);
+        leads = λ c is. leads.leads c (kept_pair (settled_span hung row.1) row.1.cursors c is);
+      }) rows (fit.led near));
 }
 
 written : (new old : Rows) (n : ℕ) → length new ≡ n → take n (new ++ drop (length new) old) ≡ new
@@ -143,13 +156,9 @@ module _ (old new : Hung) (info : RangeInfo) (hangs : Hangs old info) (follow : 
   pub hangs_settled : Hangs new (settled_info old info)
   hangs_settled = hangs_by (settled_span old info) refl info.cursors refl
 
-kept_among : (s : Option Ends) (o : Option (ℕ × ℕ)) (n : ℕ) → IsTrue (is_among (cursors_kept s o) n) → IsTrue (is_among o n)
+pub kept_among : (s : Option Ends) (o : Option (ℕ × ℕ)) (n : ℕ) → IsTrue (is_among (cursors_kept s o) n) → IsTrue (is_among o n)
 kept_among None o n held = absurd (grind arith)
 kept_among (Some s) o n held = held
-
-kept_pair : (s : Option Ends) (o : Option (ℕ × ℕ)) (c : ℕ × ℕ) → cursors_kept s o ≡ Some c → o ≡ Some c
-kept_pair None o c is = absurd (grind arith)
-kept_pair (Some s) o c is = is
 
 -- a settled range came from a range of the same number
 came_from : (f : RangeInfo → RangeInfo) (o : Option RangeInfo) (x : RangeInfo) → option_map f o ≡ Some x

@@ -1,5 +1,12 @@
 -- What holds of every table of ranges as ranges come and go, and of every settling.
-use Rattle.std.specs.Prelude.{◌≡◌, ℕ, Option, Some, IsTrue}
+use Rattle.std.specs.Prelude.{◌≡◌, ℕ, ◌+◌, ◌-◌, ◌≤◌, ◌==◌, Bool, List, [], ◌∷◌, Option, Some, IsTrue, IsFalse}
+use Rattle.std.specs.List.{list_any}
+use Rattle.kte_place.specs.declared.span.Expand.{Expand}
+use Rattle.kte_place.specs.declared.entry.EntryKind.{EntryKind}
+use Rattle.kte_place.specs.declared.entry.EntryKind.TheVariants.{Wrap, Unwrap, Insert, Remove}
+use Rattle.kte_place.specs.declared.entry.Entry.{Entry}
+use Rattle.kte_place.specs.Entry.{carry}
+use Rattle.kte_place.specs.Span.{ends, settle, start_on, end_on}
 use Rattle.std.specs.FinMap.{get, insert, remove}
 use Rattle.kte_place.specs.declared.span.Empty.{Empty}
 use Rattle.kte_place.specs.Ends.{Ends}
@@ -38,3 +45,24 @@ GoesHung = (hung : Hung) (ranges : Ranges) (id : ℕ) → CursorsHang hung range
 -- what has settled stays as it is
 abbrev pub SettlesOnce : Type 0
 SettlesOnce = (empty : Empty) (s : Option Ends) → settled empty (settled empty s) ≡ settled empty s
+
+-- the lines that an entry of this kind, at this line, leaves changed: both lines of a cut, and the
+-- line that another was joined to
+abbrev pub lines_touched : EntryKind → ℕ → List ℕ
+lines_touched Wrap line = line ∷ (line + 1) ∷ []
+lines_touched Unwrap line = (line - 1) ∷ []
+lines_touched Insert line = line ∷ []
+lines_touched Remove line = line ∷ []
+
+-- the entry touched this line of the text after it
+abbrev pub is_touched_by : Entry → ℕ → Bool
+is_touched_by entry line = list_any (λ n. n == line) (lines_touched entry.kind entry.line)
+
+-- a settled range stays settled over an entry after which its start is on no touched line
+abbrev pub UntouchedStaysSettled : Type 0
+UntouchedStaysSettled =
+    (entry : Entry) (s : Ends) (expand : Expand) (empty : Empty) → (entry.kind ≡ Unwrap → 1 ≤ entry.line)
+    → settle s.start s.end empty ≡ Some s
+    → IsFalse (is_touched_by entry (carry entry s.start (start_on expand)).line)
+    → settle (carry entry s.start (start_on expand)) (carry entry s.end (end_on expand)) empty
+    ≡ Some (ends (carry entry s.start (start_on expand)) (carry entry s.end (end_on expand)))

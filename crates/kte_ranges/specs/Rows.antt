@@ -1,23 +1,23 @@
 -- What is true of the rows of every table. This project's own rule.
-use Rattle.std.specs.Prelude.{◌≡◌, ℕ, ◌<◌, ◌≤◌, ◌^◌, List, length, slice_index_or, All, AllPairs, false, IsTrue}
+use Rattle.std.specs.Prelude.{◌≡◌, ℕ, ◌<◌, ◌≤◌, ◌^◌, length, slice_index_or, All, AllPairs, false, IsTrue}
 use Rattle.kte_ranges.specs.declared.info.RangeInfo.{RangeInfo}
 use Rattle.kte_ranges.specs.Cursors.{Hung, holds_cursor}
+use Rattle.kte_ranges.specs.declared.starts.Starts.{Starts}
+use Rattle.kte_ranges.specs.Starts.{Rows, AreLed}
 use Rattle.kte_ranges.specs.Settling.{settled_info}
-
--- ranges, each with its number
-abbrev pub Rows : Type 0
-Rows = List (ℕ × RangeInfo)
 
 -- the numbers rise, so none comes twice
 abbrev pub IsRising : Rows → Type 0
 IsRising rows = AllPairs (λ x y. x.0 < y.0) rows
 
--- the rows stand in the order of their numbers, which are at least 1 and below the next one
-pub record RowsFit (rows : Rows) (next : ℕ) : Type 0 where
+-- The rows are in the order of their numbers, which are at least 1 and below the next one, and the
+-- index leads to those that start with a cursor
+pub record RowsFit (rows : Rows) (next : ℕ) (starts : Starts) : Type 0 where
   pub rising : IsRising rows
   pub numbers : All (λ row. (1 ≤ row.0) × (row.0 < next)) rows
   pub first : 1 ≤ next
   pub bound : next ≤ 2 ^ 63
+  pub led : AreLed starts rows
 
 -- the row at place i has the number
 pub record IsAt (rows : Rows) (id i : ℕ) : Type 0 where

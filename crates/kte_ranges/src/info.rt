@@ -1,6 +1,7 @@
 ghost use Rattle.std.specs.Prelude.{◌≡◌, ℕ, false};
 ghost use Rattle.std.specs.FinMap as map;
 ghost use Rattle.kte_ranges.specs.Cursors.{holds_cursor, Hangs, HoldsTwo, StartIsReady};
+ghost use Rattle.kte_ranges.specs.Starts.{starts_with};
 ghost use Rattle.kte_ranges.specs.Settling.{settled_info, CursorsFollow};
 
 use kte_place::{Cursors, Empty, Expand, Span, settle};
@@ -41,6 +42,16 @@ pub struct RangeInfo {
 }
 
 impl RangeInfo {
+    /// Whether the range starts with the cursor of this number.
+    pub(crate) fn starts_with(&self, cursor: u64) -> bool
+        ensures { result ≡ starts_with self.now cursor }
+    {
+        match self.cursors {
+            Some((start, _)) => start == cursor,
+            None => false,
+        }
+    }
+
     /// Brings the range in order after its cursors have moved. Other cursors stay.
     pub(crate) fn settle<C: Cursors>(&mut self, cursors: &mut C)
         requires hang { Hangs (C.hung cursors.old) self.old }

@@ -1,6 +1,6 @@
 //! Laws of tables of ranges, and of settling. Each function does nothing: its contract is the law, for every table,
 //! range and cursors.
-ghost use Rattle.kte_ranges.specs.Laws.{ComesApart, ComesHung, GoesApart, GoesFree, GoesHung, SettlesOnce};
+ghost use Rattle.kte_ranges.specs.Laws.{ComesApart, ComesHung, GoesApart, GoesFree, GoesHung, SettlesOnce, UntouchedStaysSettled};
 
 /// A range that comes, or takes the place of the one of its number.
 pub fn coming()
@@ -15,7 +15,9 @@ pub fn going()
     ensures hung { GoesHung }
 {}
 
-/// What has settled stays as it is.
+/// What has settled stays as it is, also over an entry after which its start is on none of the lines
+/// that the entry touched. So only the ranges that start on a touched line have to be settled.
 pub fn settled()
-    ensures { SettlesOnce }
+    ensures once { SettlesOnce }
+    ensures untouched { UntouchedStaysSettled }
 {}

@@ -6,6 +6,7 @@
 //!
 //! - `info`: what a range is, and how one settles
 //! - `rows`: the ranges as a list in the order of their numbers
+//! - `starts`: the index from cursors to the ranges that start with them
 //! - `table`: the table and its calls
 //! - `laws`, `examples`: laws, and worked examples of the definitions
 #![tactic(auto)]
@@ -17,6 +18,7 @@ pub mod examples;
 mod info;
 pub mod laws;
 mod rows;
+mod starts;
 mod table;
 #[cfg(test)]
 mod tests;

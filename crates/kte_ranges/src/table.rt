@@ -4,10 +4,12 @@ ghost use Rattle.std.specs.List.Sorted.{IsStrictlyIncreasing};
 ghost use Rattle.std.specs.FinMap as map;
 ghost use Rattle.kte_ranges.specs.Table.{AllInfos, NumbersBelow, reset};
 ghost use Rattle.kte_ranges.specs.Cursors.{IsFree, CursorsHang, CursorsApart, StartsAreReady, span_of};
+ghost use Rattle.kte_ranges.specs.Starts.{IsNearOrSettled};
 ghost use Rattle.kte_ranges.specs.Settling.{settled_info, settled_span, CursorsFollow};
 
 use crate::info::{Origin, RangeInfo};
-use crate::rows::{position, settle_rows};
+use crate::rows::{position, settle_near, settle_rows};
+use crate::starts::Starts;
 use kte_place::Cursors;
 use std::alloc::{AllocError, Global};
 use std::marker::Model;
@@ -29,6 +31,7 @@ pub struct NoRange {
 pub struct RangeTable {
     /// In the order of the numbers.
     rows: Vec<(u64, RangeInfo)>,
+    starts: Starts,
     next: u64,
 }
 
@@ -49,7 +52,7 @@ impl Model for RangeTable {
       room = vec_capacity t.rows - vec_len t.rows;
     } };
 
-    ghost invariant = { λ t. RowsFit t.rows.items t.next };
+    ghost invariant = { λ t. RowsFit t.rows.items t.next t.starts };
 }
 
 impl RangeTable {
@@ -60,6 +63,7 @@ impl RangeTable {
     {
         RangeTable {
             rows: Vec::new(alloc),
+            starts: Starts::new(alloc),
             next: 1,
         }
     }
@@ -71,7 +75,10 @@ impl RangeTable {
         ensures ranges { self.new.ranges ≡ self.old.ranges }
         ensures next { self.new.next ≡ self.old.next }
     {
-        self.rows.reserve(ranges as usize)
+        self.rows.reserve(ranges as usize)?;
+        // Two cursors a range, and two more for one that is set while its own still hang.
+        let cursors = self.rows.capacity().saturating_mul(2).saturating_add(2);
+        self.starts.reserve(cursors)
     }
 
     /// Takes in a range, and answers its number. It takes no memory.
@@ -85,6 +92,7 @@ impl RangeTable {
         ensures room { self.new.room + 1 ≡ self.old.room }
     {
         let id = self.next;
+        self.starts.note(self.rows.as_slice(), id, info.cursors);
         self.rows.push_reserved((id, info));
         self.next = id + 1;
         id
@@ -109,6 +117,7 @@ impl RangeTable {
         let Some(i) = position(self.rows.as_slice(), id) else {
             return Err(NoRange { id });
         };
+        self.starts.note(self.rows.as_slice(), id, cursors);
         let info = &mut self.rows[i].1;
         let had = info.cursors;
         info.origin = origin;
@@ -158,6 +167,41 @@ impl RangeTable {
         ensures room { self.new.room ≡ self.old.room }
     {
         settle_rows(self.rows.as_mut_slice(), cursors);
+    }
+
+    /// Does the same as [`RangeTable::settle`] where every range is settled already that does not
+    /// start on one of the lines that were last touched. It takes the time of the cursors on those
+    /// lines, unless ranges were given cursors of numbers that [`RangeTable::reserve`] made no room
+    /// for, or one cursor was the start of two ranges. This does not allocate.
+    pub fn settle_near<C: Cursors>(&mut self, cursors: &mut C)
+        requires hang { CursorsHang (C.hung cursors.old) self.old.ranges }
+        requires apart { CursorsApart self.old.ranges }
+        requires ready { StartsAreReady (C.hung cursors.old) (C.ready cursors.old) self.old.ranges }
+        requires others { AllInfos
+            (IsNearOrSettled (C.hung cursors.old) (C.near cursors.old)) self.old.ranges }
+        ensures ranges { (id : ℕ) → map.get self.new.ranges id ≡
+            option_map (settled_info (C.hung cursors.old)) (map.get self.old.ranges id) }
+        // Each range stands where it settled to.
+        ensures spans { AllInfos (λ info.
+            span_of (C.hung cursors.new) (settled_info (C.hung cursors.old) info) ≡
+            settled_span (C.hung cursors.old) info) self.old.ranges }
+        ensures cursors { AllInfos
+            (CursorsFollow (C.hung cursors.old) (C.hung cursors.new)) self.old.ranges }
+        ensures others { (n : ℕ) → IsFree self.old.ranges n →
+            map.get (C.hung cursors.new) n ≡ map.get (C.hung cursors.old) n }
+        ensures hang { CursorsHang (C.hung cursors.new) self.new.ranges }
+        ensures apart { CursorsApart self.new.ranges }
+        ensures lines { C.ready cursors.new ≡ C.ready cursors.old }
+        ensures near { C.near cursors.new ≡ C.near cursors.old }
+        ensures rest { C.rest cursors.new ≡ C.rest cursors.old }
+        ensures next { self.new.next ≡ self.old.next }
+        ensures room { self.new.room ≡ self.old.room }
+    {
+        if !self.starts.is_whole() {
+            self.settle(cursors);
+            return;
+        }
+        settle_near(self.rows.as_mut_slice(), &self.starts, cursors);
     }
 
     /// The range of this number.

@@ -1,4 +1,4 @@
-ghost use Rattle.std.specs.Prelude.{◌≡◌, ◌<◌, ℕ, [], ◌∷◌, nat_lt, Some};
+ghost use Rattle.std.specs.Prelude.{◌≡◌, ◌<◌, ℕ, [], ◌∷◌, Contains, nat_lt, Some};
 ghost use Rattle.kte_place.specs.Place.{at};
 ghost use Rattle.kte_ranges.specs.Cursors.{Hangs, StartIsReady};
 ghost use Rattle.kte_ranges.specs.Examples.{range, pegs};
@@ -106,20 +106,21 @@ impl Pegs {
     }
 }
 
-/// Settles a table with one range, of cursors 0 and 1, and answers what it is then.
+/// Settles a table with one range, of cursors 0 and 1, and returns what it is then.
 fn settle_lone<C: Cursors>(
     alloc: Global,
     cursors: &mut C,
     empty: Empty,
 ) -> Result<Option<RangeInfo>, AllocError>
     requires hang { Hangs (C.hung cursors.old) (range empty (Some (0, 1))) }
+    requires near { Contains (C.near cursors.old) 0 }
     requires ready { StartIsReady (C.hung cursors.old) (C.ready cursors.old)
         (range empty (Some (0, 1))) }
 {
     let mut table = RangeTable::new(alloc);
     table.reserve(1)?;
     let id = table.make(info(empty, Some((0, 1))));
-    table.settle(cursors);
+    table.settle_near(cursors);
     Ok(table.get(id))
 }
 

@@ -1,26 +1,48 @@
 -- The saved file, read and loaded.
-use Rattle.std.proofs.Common.{◌≡◌, ◌≢◌, ◌↔◌, ℕ, List, [], ◌∷◌, ◌++◌, refl, length, take, drop, Option, Some, None, Result, Ok, Err, IfSome, sym, subst, ap, ◌∙◌}
+use Rattle.std.proofs.Common.{◌≡◌, ◌≢◌, ◌↔◌, ◌<◌, IsSomeAnd, IsErrAnd, IfErr, arith, ℕ, List, [], ◌∷◌, ◌++◌, refl, length, take, drop, Option, Some, None, Result, Ok, Err, IfSome, sym, subst, ap, ◌∙◌}
 use Rattle.std.proofs.Math.Seq.{take-length}
 use Rattle.kte_text.specs.Files.{Loads, Refuses}
 use Rattle.kte_text.specs.declared.loading.Loaded.{Loaded}
 use Rattle.kte_text.specs.declared.loading.LoadFault.{LoadFault}
 use Rattle.kte_text.specs.declared.loading.LoadFault.TheVariants as load
+use Rattle.kte_text.specs.declared.TheConstants.{MAX_FILE_LENGTH}
+use Rattle.kte_run.specs.declared.status.Status.{Status}
+use Rattle.kte_run.specs.declared.status.Status.TheVariants as status
 use Rattle.kte_run.specs.Run.{IsLoadable}
+use Rattle.kte_run.specs.Statuses.{file_status}
 
 front_all : (xs ys : List ℕ) → take (length xs) (xs ++ ys) ≡ xs
 front_all [] ys = refl
 front_all (x ∷ xs) ys = ap (λ (rest : List ℕ). x ∷ rest) (front_all xs ys)
 
+both : (P Q R : List ℕ → Type 0) → ((file : List ℕ) → P file → Q file → R file) → (o : Option (List ℕ)) → IfSome o P → IfSome o Q → IfSome o R
+both P Q R f None p q = tt
+both P Q R f (Some file) p q = f file p q
+
 -- so many elements as a list has, of it and of others after it
 pub front : (n : ℕ) (xs ys : List ℕ) → n ≡ length xs → take n (xs ++ ys) ≡ xs
 front n xs ys is = ap (λ (k : ℕ). take k (xs ++ ys)) is ∙ front_all xs ys
 
+-- what is told later is what was told before
+abbrev pub TellsOn : Option (List ℕ) → Option (List ℕ) → Type 0
+TellsOn before after = IfSome before (λ file. after ≡ Some file)
+
+later : (P : List ℕ → Type 0) (before after : Option (List ℕ)) → TellsOn before after → IfSome after P → IfSome before P
+later P None after on h = tt
+later P (Some file) after on h = subst (λ (o : Option (List ℕ)). IfSome o P) on h
+
 -- the bytes that were read are the file
-pub read : (saved : Option (List ℕ)) (later : Option (List ℕ)) (n : ℕ) (room filled bytes : List ℕ) → later ≡ saved → IfSome saved (λ file. n ≡ length file) → length room ≡ n → IfSome later (λ file. filled ≡ take (length room) (drop 0 file)) → bytes ≡ filled → IfSome saved (λ file. bytes ≡ file)
-read None later n room filled bytes same long fits gives is = tt
-read (Some file) later n room filled bytes same long fits gives is =
-    let given : filled ≡ take (length room) (drop 0 file) = subst (λ (saved : Option (List ℕ)). IfSome saved (λ file. filled ≡ take (length room) (drop 0 file))) same gives in
-    is ∙ given ∙ ap (λ (k : ℕ). take k file) (fits ∙ long) ∙ take-length file
+pub read : (saved mid new : Option (List ℕ)) (n : ℕ) (room filled bytes : List ℕ) → TellsOn saved mid → TellsOn mid new → IfSome mid (λ file. n ≡ length file) → length room ≡ n → IfSome new (λ file. filled ≡ take (length room) (drop 0 file)) → bytes ≡ filled → IfSome saved (λ file. bytes ≡ file)
+read saved mid new n room filled bytes on on' long fits gives is =
+    later (λ file. bytes ≡ file) saved mid on (
+    both (λ file. n ≡ length file) (λ file. filled ≡ take (length room) (drop 0 file)) (λ file. bytes ≡ file)
+    (λ file long gives. is ∙ gives ∙ ap (λ (k : ℕ). take k file) (fits ∙ long) ∙ take-length file)
+    mid long (later (λ file. filled ≡ take (length room) (drop 0 file)) mid new on' gives)
+    )
+
+-- the length of the file
+pub measured : (saved mid : Option (List ℕ)) (n : ℕ) → TellsOn saved mid → IfSome mid (λ file. n ≡ length file) → IfSome saved (λ file. n ≡ length file)
+measured saved mid n on long = later (λ file. n ≡ length file) saved mid on long
 
 -- a file that was loaded is not refused
 loadable : (file : List ℕ) (loaded : Loaded) (result : Result Loaded LoadFault) → result ≡ Ok loaded → ((fault : LoadFault) → fault ≢ load.NoMemory → (result ≡ Err fault) ↔ Refuses file fault) → IsLoadable file
@@ -34,3 +56,70 @@ pub told : (saved : Option (List ℕ)) (bytes : List ℕ) (loaded : Loaded) (res
 told None bytes loaded result same is loads refused = tt
 told (Some file) bytes loaded result same is loads refused =
     (subst (λ (b : List ℕ). Loads b loaded) same loads, subst IsLoadable same (loadable bytes loaded result is refused))
+
+-- what is said of the bytes is said of the file that they are
+pub refused_file : (saved : Option (List ℕ)) (bytes : List ℕ) (fault : LoadFault) → IfSome saved (λ file. bytes ≡ file) → Refuses bytes fault → IfSome saved (λ file. Refuses file fault)
+refused_file None bytes fault same refuses = tt
+refused_file (Some file) bytes fault same refuses = subst (λ (b : List ℕ). Refuses b fault) same refuses
+
+-- and the other way
+pub refused_bytes : (saved : Option (List ℕ)) (bytes : List ℕ) (fault : LoadFault) → IfSome saved (λ file. bytes ≡ file) → IsSomeAnd saved (λ file. Refuses file fault) → Refuses bytes fault
+refused_bytes None bytes fault same refuses = absurd refuses
+refused_bytes (Some file) bytes fault same refuses = subst (λ (b : List ℕ). Refuses b fault) (sym same) refuses
+
+-- the fault that a status stands for
+fault_in : Status → LoadFault
+fault_in (status.NotUtf8 at) = load.NotUtf8 at
+fault_in (status.TooLarge None) = load.LongFile
+fault_in (status.TooLarge (Some size)) = load.TooLarge size
+fault_in status.Ok = load.NoMemory
+fault_in status.NoMemory = load.NoMemory
+fault_in (status.BadWords at) = load.NoMemory
+fault_in status.ReadFault = load.NoMemory
+fault_in (status.BadScript fault) = load.NoMemory
+fault_in status.DiskFault = load.NoMemory
+fault_in status.WriteFault = load.NoMemory
+
+fault_in-file_status : (fault : LoadFault) → fault_in (file_status fault) ≡ fault
+unfolding fault_in
+fault_in-file_status load.LongFile = refl
+fault_in-file_status (load.NotUtf8 at) = refl
+fault_in-file_status (load.TooLarge size) = refl
+fault_in-file_status load.NoMemory = refl
+
+-- two faults with one status are one
+pub same_fault : (a b : LoadFault) → file_status a ≡ file_status b → a ≡ b
+same_fault a b is = sym (fault_in-file_status a) ∙ ap fault_in is ∙ fault_in-file_status b
+
+long : (n : ℕ) (file : List ℕ) (fault : LoadFault) → n ≡ length file → MAX_FILE_LENGTH < n → load.LongFile ≡ fault → Refuses file fault
+long n file fault measured much is = subst (λ (f : LoadFault). Refuses file f) is (omega (arith, measured, much))
+
+-- a file that is too long is refused for that
+pub long_refused : (saved : Option (List ℕ)) (n : ℕ) (given : Status) (fault : LoadFault) → given ≡ file_status load.LongFile → given ≡ file_status fault → IfSome saved (λ file. n ≡ length file) → MAX_FILE_LENGTH < n → IfSome saved (λ file. Refuses file fault)
+long_refused None n given fault is given_is measured much = tt
+long_refused (Some file) n given fault is given_is measured much =
+    long n file fault measured much (same_fault load.LongFile fault (sym is ∙ given_is))
+
+-- and for nothing else
+pub long_comes : (saved : Option (List ℕ)) (n : ℕ) (given : Status) (fault : LoadFault) → given ≡ file_status load.LongFile → IfSome saved (λ file. n ≡ length file) → MAX_FILE_LENGTH < n → IsSomeAnd saved (λ file. Refuses file fault) → given ≡ file_status fault
+long_comes None n given fault is measured much refuses = absurd refuses
+long_comes (Some file) n given load.LongFile is measured much refuses = is
+long_comes (Some file) n given (load.NotUtf8 at) is measured much refuses = absurd (let short = refuses.0 in omega (arith, measured, much, short))
+long_comes (Some file) n given (load.TooLarge size) is measured much refuses = absurd (let short = refuses.0 in omega (arith, measured, much, short))
+long_comes (Some file) n given load.NoMemory is measured much refuses = absurd refuses
+
+-- the status of a fault that went up
+pub err_status : (r : Result Loaded Status) (fault : LoadFault) (given : Status) → IsErrAnd r (λ s. s ≡ file_status fault) → r ≡ Err given → given ≡ file_status fault
+err_status (Ok v) fault given is as_err = absurd is
+err_status (Err s) fault given is as_err = let same : s ≡ given = cc in sym same ∙ is
+
+pub err_any : (r : Result Loaded Status) (fault : LoadFault) (Q : Status → Type 0) → IsErrAnd r (λ s. s ≡ file_status fault) → ((s : Status) → s ≡ file_status fault → Q s) → IfErr r Q
+err_any (Ok v) fault Q is f = absurd is
+err_any (Err s) fault Q is f = f s is
+
+-- out of memory is no fault of a file
+pub not_memory : (bytes : List ℕ) (fault : LoadFault) → Refuses bytes fault → fault ≢ load.NoMemory
+not_memory bytes load.LongFile refuses = λ e. cc e
+not_memory bytes (load.NotUtf8 at) refuses = λ e. cc e
+not_memory bytes (load.TooLarge size) refuses = λ e. cc e
+not_memory bytes load.NoMemory refuses = absurd refuses

@@ -1,6 +1,6 @@
 -- The journal of a run.
-use Rattle.std.proofs.Common.{◌≡◌, ℕ, ◌+◌, take, append_assoc, List, [], ◌∷◌, ◌++◌, Option, Some, None, refl, ap, sym, subst, ◌∙◌}
-use Rattle.std.specs.List.{filter_map, flat_map, slice_get}
+use Rattle.std.proofs.Common.{◌≡◌, ℕ, ◌+◌, take, append_assoc, List, [], ◌∷◌, ◌++◌, Some, Result, Ok, refl, ap, sym, subst, ◌∙◌}
+use Rattle.std.specs.List.{flat_map, slice_get}
 use Rattle.std.proofs.lemmas.Grind.{flat_map-append}
 use Rattle.std.proofs.lemmas.List.{take_more, append-nil}
 use Rattle.std.proofs.lemmas.Option.{slice_get_within, get_or_from_slice_get}
@@ -10,7 +10,8 @@ use Rattle.kte_core.specs.React.{State, react, text_of}
 use Rattle.kte_core.specs.Requests.{IsAllowed}
 use Rattle.kte_core.specs.Replay.{Session, IsLegal, Legal, after_event, replay, beginning, present}
 use Rattle.kte_core.specs.declared.event.Event.{Event}
-use Rattle.kte_core.specs.declared.request.Command.{Command}
+use Rattle.kte_command.specs.declared.command.Command.{Command}
+use Rattle.kte_script.specs.declared.fault.ScriptFault.{ScriptFault}
 use Rattle.kte_core.specs.declared.request.Request.{Request}
 use Rattle.kte_core.specs.declared.request.Request.TheVariants.{Cmd}
 use Rattle.kte_core.specs.declared.reply.Reply.{Reply}
@@ -74,12 +75,12 @@ Prints-same commands loaded a b prints_a prints_b =
     Legal-same (start_of loaded) prints_a.events prints_b.events prints_a.legal prints_b.legal (prints_a.ordered ∙ sym prints_b.ordered) in
     prints_a.printed ∙ ap (λ (events : List Event). output_of events (text_of (replay (start_of loaded) events).editing)) same ∙ sym prints_b.printed
 
-some-same : {A : Type 0} {a b : A} → Some a ≡ Some b → a ≡ b
-some-same same = cc
+ok-same : (a b : List Command) → ◌≡◌ {A = Result (List Command) ScriptFault} (Ok a) (Ok b) → a ≡ b
+ok-same a b same = cc
 
 pub Outputs-same : (script file a b : List ℕ) → Outputs script file a → Outputs script file b → a ≡ b
 Outputs-same script file a b outputs_a outputs_b =
-    let commands : outputs_a.commands ≡ outputs_b.commands = some-same (sym outputs_a.spelled ∙ outputs_b.spelled) in
+    let commands : outputs_a.commands ≡ outputs_b.commands = ok-same outputs_a.commands outputs_b.commands (sym outputs_a.spelled ∙ outputs_b.spelled) in
     let loaded : outputs_a.loaded ≡ outputs_b.loaded = Loads_same file outputs_a.loaded outputs_b.loaded outputs_a.loads outputs_b.loads in
     Prints-same outputs_b.commands outputs_b.loaded a b
     (subst (λ (l : Loaded). Prints outputs_b.commands l a) loaded (subst (λ (cs : List Command). Prints cs outputs_a.loaded a) commands outputs_a.prints))

@@ -1,6 +1,4 @@
-pub mod Numbers
 pub mod Left
-pub mod Commands
 pub mod Journals
 pub mod Answering
 pub mod Files

@@ -8,9 +8,9 @@ use Rattle.kte_text.specs.declared.primitive.Misfit.TheVariants.{NoLine, NoColum
 use Rattle.kte_place.specs.Ends.{Ends}
 use Rattle.kte_core.specs.declared.event.Event.{Event}
 use Rattle.kte_core.specs.declared.reply.Reply.{Reply}
-use Rattle.kte_core.specs.declared.reply.Reply.TheVariants.{Edited, Range, Dropped, Refused}
+use Rattle.kte_core.specs.declared.reply.Reply.TheVariants.{Edited, Range, Dropped, Locked, Unlocked, Landed, Refused}
 use Rattle.kte_core.specs.declared.reply.Refusal.{Refusal}
-use Rattle.kte_core.specs.declared.reply.Refusal.TheVariants.{Misfit, RevisionsFull, NoRange}
+use Rattle.kte_core.specs.declared.reply.Refusal.TheVariants.{Misfit, RevisionsFull, NoRange, NotLocked, NotOwned}
 
 -- a number after a space
 abbrev pub spaced : ℕ → List ℕ
@@ -23,10 +23,18 @@ misfit_text (SplitsPair line column) = codes "splitspair" ++ spaced line ++ spac
 misfit_text FirstLine = codes "firstline"
 misfit_text (TooLarge size) = codes "toolarge" ++ spaced size
 
+-- a number after a space, or `none`
+abbrev pub spaced_or_none : Option ℕ → List ℕ
+spaced_or_none None = codes " none"
+spaced_or_none (Some n) = spaced n
+
 abbrev pub refusal_text : Refusal → List ℕ
 refusal_text (Misfit cause) = misfit_text cause
 refusal_text (RevisionsFull revision) = codes "revisionsfull" ++ spaced revision
 refusal_text (NoRange id) = codes "norange" ++ spaced id
+refusal_text (NotLocked revision oldest) =
+    codes "notlocked" ++ spaced revision ++ spaced_or_none oldest
+refusal_text (NotOwned revision) = codes "notowned" ++ spaced revision
 
 -- a span, from its start to its end, or `invalid`
 abbrev pub span_text : Option Ends → List ℕ
@@ -40,6 +48,9 @@ reply_text (Edited steps revision depth) = codes "edited" ++ spaced steps ++ spa
     ++ spaced depth
 reply_text (Range id span) = codes "range" ++ spaced id ++ span_text span
 reply_text (Dropped id) = codes "dropped" ++ spaced id
+reply_text (Locked revision) = codes "locked" ++ spaced revision
+reply_text (Unlocked revision) = codes "unlocked" ++ spaced revision
+reply_text (Landed span) = codes "landed" ++ span_text span
 reply_text (Refused refusal) = codes "refused " ++ refusal_text refusal
 
 -- a line of the text: `|`, the line in UTF-8, and LF

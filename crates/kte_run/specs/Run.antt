@@ -1,8 +1,9 @@
 -- What a run prints, and what its statuses say. This project's own rules.
-use Rattle.std.specs.Prelude.{◌≡◌, ◌⊎◌, ℕ, List, [], Option, Some, IsSome, IfSome}
+use Rattle.std.specs.Prelude.{◌≡◌, ◌⊎◌, ℕ, List, Option, Some, Ok, IsOk, IfSome}
 use Rattle.std.specs.List.{filter_map}
+use Rattle.std.specs.Io.KnownBytes.{Appends, IsAtEnd}
 use Rattle.kte_causes.specs.Faults.{Rose}
-use Rattle.kte_causes.specs.Contents.{Gains, GainsPrefix}
+use Rattle.kte_causes.specs.Contents.{AppendsPrefix}
 use Rattle.kte_causes.specs.DiskFaults.{AllStay}
 use Rattle.kte_causes.specs.declared.causes.DiskCall.{DiskCall}
 use Rattle.kte_causes.specs.declared.causes.DiskCall.TheVariants.{SavedLen, SavedAt}
@@ -12,12 +13,12 @@ use Rattle.kte_text.specs.declared.loading.LoadFault.{LoadFault}
 use Rattle.kte_core.specs.React.{State, text_of}
 use Rattle.kte_core.specs.Replay.{beginning, replay, Legal}
 use Rattle.kte_core.specs.declared.event.Event.{Event}
-use Rattle.kte_core.specs.declared.request.Command.{Command}
+use Rattle.kte_command.specs.declared.command.Command.{Command}
 use Rattle.kte_core.specs.declared.request.Request.{Request}
 use Rattle.kte_core.specs.declared.request.Request.TheVariants.{Cmd}
 use Rattle.kte_run.specs.declared.TheConstants.{MAX_REVISIONS}
 use Rattle.kte_run.specs.Output.{output_of}
-use Rattle.kte_run.specs.Script.{script_of}
+use Rattle.kte_script.specs.Script.{script_of}
 
 -- the state at first
 abbrev pub start_of : Loaded → State
@@ -48,7 +49,7 @@ IsLoadable file = (fault : LoadFault) → ¬ (Refuses file fault)
 -- output is printed for them
 pub record Outputs (script file output : List ℕ) : Type 0 where
   pub commands : List Command
-  pub spelled : script_of script ≡ Some commands
+  pub spelled : script_of script ≡ Ok commands
   pub loaded : Loaded
   pub loads : Loads file loaded
   pub prints : Prints commands loaded output
@@ -57,19 +58,19 @@ pub record Outputs (script file output : List ℕ) : Type 0 where
 pub record Writes (script file : List ℕ) (before after : Option (List ℕ)) : Type 0 where
   pub output : List ℕ
   pub outputs : Outputs script file output
-  pub gains : Gains output before after
+  pub gains : Appends before after output
 
 -- what was written is the first bytes of that output
 pub record WritesPrefix (script file : List ℕ) (before after : Option (List ℕ)) : Type 0 where
   pub output : List ℕ
   pub outputs : Outputs script file output
-  pub gains : GainsPrefix output before after
+  pub gains : AppendsPrefix before after output
 
 -- the script was read to its end without a fault, and spells commands
 pub record ReadsScript (before after : Option (List ℕ)) (faults later_faults : ℕ) : Type 0 where
-  pub whole : IfSome after (λ rest. rest ≡ [])
+  pub whole : IsAtEnd after
   pub calm : later_faults ≡ faults
-  pub spells : IfSome before (λ bytes. IsSome (script_of bytes))
+  pub spells : IfSome before (λ bytes. IsOk (script_of bytes))
 
 -- the file was read without a fault, and is not refused
 pub record LoadsFile (file : Option (List ℕ)) (faults later_faults : DiskCall → ℕ) : Type 0 where

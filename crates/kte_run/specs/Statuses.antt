@@ -8,6 +8,8 @@ use Rattle.kte_causes.specs.declared.causes.ReadFault.{ReadFault}
 use Rattle.kte_causes.specs.declared.causes.ReadFault.TheVariants as read
 use Rattle.kte_causes.specs.declared.causes.SinkFail.{SinkFail}
 use Rattle.kte_causes.specs.declared.causes.SinkFail.TheVariants as sink
+use Rattle.kte_script.specs.declared.fault.ScriptFault.{ScriptFault}
+use Rattle.kte_script.specs.declared.fault.ScriptFault.TheVariants as faults
 use Rattle.kte_text.specs.declared.loading.LoadFault.{LoadFault}
 use Rattle.kte_text.specs.declared.loading.LoadFault.TheVariants as load
 use Rattle.kte_run.specs.declared.status.Status.{Status}
@@ -19,7 +21,7 @@ code_of status.Ok = 0
 code_of status.NoMemory = 1
 code_of (status.BadWords at) = 2
 code_of status.ReadFault = 3
-code_of status.BadScript = 4
+code_of (status.BadScript fault) = 4
 code_of status.DiskFault = 5
 code_of (status.NotUtf8 at) = 6
 code_of (status.TooLarge size) = 7
@@ -30,22 +32,36 @@ abbrev pub too_large_line : Option ℕ → List ℕ
 too_large_line None = codes "kted: file too long"
 too_large_line (Some size) = codes "kted: text too large: " ++ decimal size
 
+-- where a script is at fault
+abbrev pub script_line : ScriptFault → List ℕ
+script_line (faults.Bad line column) = codes "kted: script line " ++ decimal line ++ codes " column " ++ decimal column
+script_line (faults.TooMany line) = codes "kted: script line " ++ decimal line ++ codes " is one command too many"
+script_line faults.TooLong = codes "kted: script too long"
+script_line faults.NoMemory = codes "kted: out of memory"
+
 -- the line on standard error, without its end
 abbrev pub error_line : Status → List ℕ
 error_line status.Ok = []
 error_line status.NoMemory = codes "kted: out of memory"
 error_line (status.BadWords at) = codes "kted: word " ++ decimal at ++ codes " does not fit"
 error_line status.ReadFault = codes "kted: reading the script failed"
-error_line status.BadScript = codes "kted: the script does not fit"
+error_line (status.BadScript fault) = script_line fault
 error_line status.DiskFault = codes "kted: the disk failed"
 error_line (status.NotUtf8 at) = codes "kted: file is not UTF-8 at byte " ++ decimal at
 error_line (status.TooLarge size) = too_large_line size
 error_line status.WriteFault = codes "kted: writing failed"
 
+-- the status of a script that is at fault
+abbrev pub bad_script_status : ScriptFault → Status
+bad_script_status faults.NoMemory = status.NoMemory
+bad_script_status (faults.Bad line column) = status.BadScript (faults.Bad line column)
+bad_script_status (faults.TooMany line) = status.BadScript (faults.TooMany line)
+bad_script_status faults.TooLong = status.BadScript faults.TooLong
+
 -- the status of a script that was not read
 abbrev pub script_status : ReadFault → Status
 script_status read.Failed = status.ReadFault
-script_status read.TooLong = status.BadScript
+script_status read.TooLong = status.BadScript faults.TooLong
 script_status read.NoMemory = status.NoMemory
 
 -- the status of a call of the disk that failed
@@ -71,7 +87,7 @@ is_of_script status.Ok = false
 is_of_script status.NoMemory = true
 is_of_script (status.BadWords at) = false
 is_of_script status.ReadFault = true
-is_of_script status.BadScript = true
+is_of_script (status.BadScript fault) = true
 is_of_script status.DiskFault = false
 is_of_script (status.NotUtf8 at) = false
 is_of_script (status.TooLarge size) = false
@@ -83,7 +99,7 @@ is_of_file status.Ok = false
 is_of_file status.NoMemory = true
 is_of_file (status.BadWords at) = false
 is_of_file status.ReadFault = false
-is_of_file status.BadScript = false
+is_of_file (status.BadScript fault) = false
 is_of_file status.DiskFault = true
 is_of_file (status.NotUtf8 at) = true
 is_of_file (status.TooLarge size) = true

@@ -5,37 +5,25 @@
 //! cause, and says that all before it went well.
 //!
 //! - `program`: `run`, from the words to the status
-//! - `words`, `script`, `saved`: what is read
+//! - `saved`: the file that is read
 //! - `output`: what is written
 //! - `status`: the statuses, their codes and their lines
 //! - `laws`: what follows from the definitions alone
 //!
-//! In specs/, `Script` has the form of a script, `Output` that of the output, `Run` what a run
-//! prints, and `Statuses` the codes and lines.
+//! In specs/, `Output` has the form of the output, `Run` what a run prints, and `Statuses` the codes
+//! and lines. The words are those of `kte_words`, the script that of `kte_script`.
 #![tactic(auto)]
 
 pub mod laws;
 mod output;
 mod program;
 mod saved;
-mod script;
 mod status;
 #[cfg(test)]
 mod tests;
-mod words;
 
 pub use program::run;
 pub use status::Status;
-pub use words::Word;
-
-/// The longest script, in bytes: 2^16.
-pub const MAX_SCRIPT_LENGTH: u64 = 65_536;
-
-/// The greatest number of a range in a script: 2^32 - 1.
-pub const MAX_ID: u32 = 4_294_967_295;
-
-/// The most digits of a number in a script.
-pub const MAX_DIGITS: usize = 10;
 
 /// The most primitives that one run can make: 2^31.
 pub const MAX_REVISIONS: u64 = 2_147_483_648;

@@ -1,7 +1,7 @@
 ghost use Rattle.std.specs.Prelude.{◌≡◌, ◌∷◌, ◌++◌, codes, IfOk, OnOk, string_bytes};
 ghost use Rattle.std.specs.List.{flat_map};
 ghost use Rattle.kte_text.specs.Units.{IsLine};
-ghost use Rattle.kte_run.specs.Output.{spaced, misfit_text, refusal_text, span_text, reply_text, event_line, line_text, output_of};
+ghost use Rattle.kte_run.specs.Output.{spaced, spaced_or_none, misfit_text, refusal_text, span_text, reply_text, event_line, line_text, output_of};
 
 use kte_core::{Event, Journal, Refusal, Reply};
 use kte_place::{Place, Span};
@@ -72,6 +72,12 @@ fn push_reply(output: &mut String, reply: &Reply) -> Result<(), AllocError>
             push_span(output, span)
         }
         Reply::Dropped { id } => write!(output, "dropped {id}"),
+        Reply::Locked { revision } => write!(output, "locked {revision}"),
+        Reply::Unlocked { revision } => write!(output, "unlocked {revision}"),
+        Reply::Landed { span } => {
+            output.push_str("landed")?;
+            push_span(output, span)
+        }
         Reply::Refused(refusal) => {
             output.push_str("refused ")?;
             push_refusal(output, refusal)
@@ -112,6 +118,22 @@ fn push_refusal(output: &mut String, refusal: &Refusal) -> Result<(), AllocError
         Refusal::Misfit(misfit) => push_misfit(output, misfit),
         Refusal::RevisionsFull { revision } => write!(output, "revisionsfull {revision}"),
         Refusal::NoRange { id } => write!(output, "norange {id}"),
+        Refusal::NotLocked { revision, oldest } => {
+            write!(output, "notlocked {revision}")?;
+            push_or_none(output, *oldest)
+        }
+        Refusal::NotOwned { revision } => write!(output, "notowned {revision}"),
+    }
+}
+
+/// Appends a space and a number, or `none`.
+fn push_or_none(output: &mut String, number: Option<u64>) -> Result<(), AllocError>
+    ensures { OnOk result (string_bytes output.new ≡ string_bytes output.old
+        ++ spaced_or_none number) }
+{
+    match number {
+        Some(number) => write!(output, " {number}"),
+        None => output.push_str(" none"),
     }
 }
 

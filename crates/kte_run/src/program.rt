@@ -1,23 +1,26 @@
-ghost use Rattle.std.specs.Prelude.{◌≡◌, ◌≢◌, ◌<◌, ◌↔◌, ◌⊎◌, true, [], ◌∷◌, Err, None, Some, IsSome, IfOk, IfErr, IfSome, IsErrOf, IsSomeAnd, OnOk, All, Contains};
+ghost use Rattle.std.specs.Prelude.{◌≡◌, ◌≢◌, ◌<◌, ◌↔◌, ◌⊎◌, true, [], ◌∷◌, Ok, Err, None, Some, IsOk, IfOk, IfErr, IfSome, IsErrOf, IsSomeAnd, OnOk, All, Contains};
 ghost use Rattle.kte_causes.specs.Faults.{Rose};
+ghost use Rattle.std.specs.Io.KnownBytes.{IsAtEnd};
 ghost use Rattle.kte_causes.specs.DiskFaults.{AllStay};
+ghost use Rattle.kte_causes.specs.Moments.{AddsMoments, Staying, saved_now};
 ghost use Rattle.kte_text.specs.Files.{Refuses};
 ghost use Rattle.kte_text.specs.declared.loading.LoadFault.TheVariants.{NoMemory};
-ghost use Rattle.kte_core.specs.Requests.{InRange};
-ghost use Rattle.kte_run.specs.Words.{words_fault};
-ghost use Rattle.kte_run.specs.Script.{script_of};
+ghost use Rattle.kte_command.specs.Commands.{InRange};
+ghost use Rattle.kte_script.specs.Script.{script_of};
+ghost use Rattle.kte_words.specs.Words.{FirstMisfit, IsCommand};
 ghost use Rattle.kte_run.specs.Run.{IsLoadable, Prints, Writes, WritesPrefix, ReadsScript, LoadsFile, DiskRose};
 ghost use Rattle.kte_run.specs.Statuses.{file_status, is_of_script};
 
+use crate::MAX_REVISIONS;
 use crate::output::output;
 use crate::saved::load_saved;
-use crate::script::read_script;
 use crate::status::Status;
-use crate::words::{self, Word};
-use crate::{MAX_REVISIONS, MAX_SCRIPT_LENGTH};
 use kte_causes::{Disk, Sink, Source, read_whole, write_whole};
-use kte_core::{Command, Core, Request};
+use kte_command::Command;
+use kte_core::{Core, Request};
+use kte_script::{MAX_SCRIPT_LENGTH, ScriptFault, read_script};
 use kte_text::Loaded;
+use kte_words::{Word, parse};
 use std::alloc::{AllocError, Global};
 
 /// Does what the words say: `edit FILE` reads a script from the source, carries out its commands on
@@ -35,17 +38,17 @@ pub fn run<R, S: Source, O: Sink, D: Disk>(
 ) -> Status
     // With status 0 all was read, and what was written is the output for this script and this file.
     ensures ok { result ≡ Status.Ok
-        → IfSome (S.left script.old) (λ bytes. IfSome (D.saved disk.old) (λ file.
+        → IfSome (S.left script.old) (λ bytes. IfSome (saved_now (D.moments disk.old)) (λ file.
         Writes bytes file (O.got out.old) (O.got out.new))) }
     ensures ok_before { result ≡ Status.Ok
         → ReadsScript (S.left script.old) (S.left script.new) (S.faults script.old)
         (S.faults script.new)
-        × LoadsFile (D.saved disk.old) (D.faults disk.old) (D.faults disk.new)
+        × LoadsFile (saved_now (D.moments disk.old)) (D.faults disk.old) (D.faults disk.new)
         × (O.faults out.new ≡ O.faults out.old) }
 
     // The words.
     ensures bad_words { (at : _)
-        → (result ≡ Status.BadWords at) ↔ (words_fault words.now ≡ Some at) }
+        → (result ≡ Status.BadWords at) ↔ (FirstMisfit words.now at) }
     ensures bad_words_alone { (at : _) → result ≡ Status.BadWords at
         → (script.new ≡ script.old) × (disk.new ≡ disk.old) × (out.new ≡ out.old) }
 
@@ -55,12 +58,15 @@ pub fn run<R, S: Source, O: Sink, D: Disk>(
         × (out.new ≡ out.old) }
     ensures read_fault_comes { S.faults script.old < S.faults script.new
         → result ≡ Status.ReadFault }
-    ensures bad_script { result ≡ Status.BadScript → (S.faults script.new ≡ S.faults script.old)
-        × IfSome (S.left script.old) (λ bytes. script_of bytes ≡ None)
+    ensures bad_script { (fault : _) → result ≡ Status.BadScript fault
+        → (S.faults script.new ≡ S.faults script.old)
+        × IfSome (S.left script.old) (λ bytes. script_of bytes ≡ Err fault)
         × (disk.new ≡ disk.old) × (out.new ≡ out.old) }
-    ensures bad_script_comes { words_fault words.now ≡ None
-        → IsSomeAnd (S.left script.old) (λ bytes. script_of bytes ≡ None)
-        → Contains (Status.BadScript ∷ Status.ReadFault ∷ Status.NoMemory ∷ []) result }
+    ensures bad_script_comes { (fault : _) → IsCommand words.now
+        → IsSomeAnd (S.left script.old) (λ bytes. script_of bytes ≡ Err fault)
+        → Contains (Status.BadScript fault ∷ Status.ReadFault ∷ Status.NoMemory ∷ []) result }
+    // That memory ran out is never told as a fault of the script.
+    ensures bad_script_named { result ≢ Status.BadScript ScriptFault.NoMemory }
 
     // The disk and the file.
     ensures disk_fault { result ≡ Status.DiskFault
@@ -73,36 +79,38 @@ pub fn run<R, S: Source, O: Sink, D: Disk>(
         → ReadsScript (S.left script.old) (S.left script.new) (S.faults script.old)
         (S.faults script.new)
         × AllStay (D.faults disk.old) (D.faults disk.new)
-        × IfSome (D.saved disk.old) (λ file. Refuses file fault) × (out.new ≡ out.old) }
-    ensures refused_comes { (fault : _) → words_fault words.now ≡ None
-        → IsSomeAnd (S.left script.old) (λ bytes. IsSome (script_of bytes))
-        → IsSomeAnd (D.saved disk.old) (λ file. Refuses file fault)
+        × IfSome (saved_now (D.moments disk.old)) (λ file. Refuses file fault)
+        × (out.new ≡ out.old) }
+    ensures refused_comes { (fault : _) → IsCommand words.now
+        → IsSomeAnd (S.left script.old) (λ bytes. IsOk (script_of bytes))
+        → IsSomeAnd (saved_now (D.moments disk.old)) (λ file. Refuses file fault)
         → Contains (file_status fault ∷ Status.DiskFault ∷ Status.ReadFault ∷ Status.NoMemory ∷ []) result }
-    ensures saved { D.saved disk.new ≡ D.saved disk.old }
+    // At each moment of the run the disk has the files that it had before.
+    ensures files { AddsMoments Staying (D.moments disk.old) (D.moments disk.new) }
 
     // The output.
     ensures write_fault { result ≡ Status.WriteFault
         → ReadsScript (S.left script.old) (S.left script.new) (S.faults script.old)
         (S.faults script.new)
-        × LoadsFile (D.saved disk.old) (D.faults disk.old) (D.faults disk.new)
+        × LoadsFile (saved_now (D.moments disk.old)) (D.faults disk.old) (D.faults disk.new)
         × Rose (O.faults out.old) (O.faults out.new) }
     ensures write_fault_comes { O.faults out.old < O.faults out.new → result ≡ Status.WriteFault }
     // Nothing but the first bytes of the output is written where writing fails or memory runs out.
     ensures prefix { (result ≡ Status.WriteFault) ⊎ (result ≡ Status.NoMemory)
-        → IfSome (S.left script.old) (λ bytes. IfSome (D.saved disk.old) (λ file.
+        → IfSome (S.left script.old) (λ bytes. IfSome (saved_now (D.moments disk.old)) (λ file.
         (O.got out.new ≡ O.got out.old)
         ⊎ WritesPrefix bytes file (O.got out.old) (O.got out.new))) }
 
     // With words, script and file of their forms, nothing but a fault or a lack of memory prevents
     // status 0.
-    ensures complete { words_fault words.now ≡ None
-        → IsSomeAnd (S.left script.old) (λ bytes. IsSome (script_of bytes))
-        → IsSomeAnd (D.saved disk.old) IsLoadable
+    ensures complete { IsCommand words.now
+        → IsSomeAnd (S.left script.old) (λ bytes. IsOk (script_of bytes))
+        → IsSomeAnd (saved_now (D.moments disk.old)) IsLoadable
         → Contains (Status.Ok ∷ Status.ReadFault ∷ Status.DiskFault ∷ Status.WriteFault ∷ Status.NoMemory ∷ [])
         result }
 {
-    if let Err(fault) = words::check(words) {
-        return Status::BadWords { at: fault.at };
+    if let Some(at) = first_misfit(words) {
+        return Status::BadWords { at };
     }
     let commands = match read_commands(alloc, script) {
         Ok(commands) => commands,
@@ -121,24 +129,37 @@ pub fn run<R, S: Source, O: Sink, D: Disk>(
     }
 }
 
+/// Returns the index of the first word that does not fit, or the number of words if one is missing;
+/// `None` if the words are a command.
+fn first_misfit(words: &[Word]) -> Option<u32>
+    ensures misfit { (at : _) → (result ≡ Some at) ↔ FirstMisfit words.now at }
+    ensures command { (result ≡ None) ↔ IsCommand words.now }
+{
+    match parse(words) {
+        Ok(_) => None,
+        Err(fault) => Some(fault.at),
+    }
+}
+
 /// Reads the script's commands.
 fn read_commands<S: Source>(alloc: Global, script: &mut S) -> Result<Vec<Command>, Status>
     ensures commands { IfOk result (λ commands. IfSome (S.left script.old)
-        (λ bytes. script_of bytes ≡ Some commands.items)) }
+        (λ bytes. script_of bytes ≡ Ok commands.items)) }
     ensures in_range { IfOk result (λ commands. All InRange commands.items) }
-    ensures whole { OnOk result (IfSome (S.left script.new) (λ rest. rest ≡ [])) }
+    ensures whole { OnOk result (IsAtEnd (S.left script.new)) }
     ensures calm { OnOk result (S.faults script.new ≡ S.faults script.old) }
     ensures only { IfErr result (λ status. is_of_script status ≡ true) }
     ensures failed { IsErrOf result Status.ReadFault
         → Rose (S.faults script.old) (S.faults script.new) }
     ensures failed_comes { S.faults script.old < S.faults script.new
         → result ≡ Err Status.ReadFault }
-    ensures bad_script { IsErrOf result Status.BadScript
-        → (S.faults script.new ≡ S.faults script.old)
-        × IfSome (S.left script.old) (λ bytes. script_of bytes ≡ None) }
+    ensures bad_script { (fault : _) → IsErrOf result (Status.BadScript fault)
+        → (fault ≢ ScriptFault.NoMemory) × (S.faults script.new ≡ S.faults script.old)
+        × IfSome (S.left script.old) (λ bytes. script_of bytes ≡ Err fault) }
 {
     let bytes = read_whole(alloc, script, MAX_SCRIPT_LENGTH)?;
-    read_script(alloc, &bytes)?.ok_or(Status::BadScript)
+    let commands = read_script(alloc, &bytes)?;
+    Ok(commands.into_commands())
 }
 
 /// Returns the output of some commands after loading.

@@ -1,10 +1,11 @@
 ghost use Rattle.std.specs.Prelude.{◌≡◌, IfOk, string_bytes};
-ghost use Rattle.kte_run.specs.Statuses.{script_status, disk_status, file_status, sink_status};
+ghost use Rattle.kte_run.specs.Statuses.{script_line, bad_script_status, script_status, disk_status, file_status, sink_status};
 ghost use Rattle.kte_run.specs.declared.status.Status.TheVariants as status;
 
 use kte_causes::{DiskFail, ReadFault, SinkFail};
+use kte_script::ScriptFault;
 use kte_text::LoadFault;
-use std::alloc::{AllocError, AllocFailed, Global};
+use std::alloc::{AllocError, Global};
 
 /// How a run ended.
 #[derive(Clone, Copy, Debug, PartialEq, Eq)]
@@ -18,8 +19,8 @@ pub enum Status {
     BadWords { at: u32 },
     /// Reading the script failed.
     ReadFault,
-    /// The script is not of the form that is read.
-    BadScript,
+    /// The script is at fault, for this cause, which is never a lack of memory.
+    BadScript(ScriptFault),
     /// The disk failed.
     DiskFault,
     /// The saved file is not UTF-8. `at` is the length of its longest prefix that is, in bytes.
@@ -42,7 +43,7 @@ impl Status {
             Status::NoMemory => 1,
             Status::BadWords { .. } => 2,
             Status::ReadFault => 3,
-            Status::BadScript => 4,
+            Status::BadScript(_) => 4,
             Status::DiskFault => 5,
             Status::NotUtf8 { .. } => 6,
             Status::TooLarge { .. } => 7,
@@ -60,7 +61,7 @@ impl Status {
             Status::NoMemory => String::from_str(alloc, "kted: out of memory"),
             Status::BadWords { at } => format!(in alloc; "kted: word {at} does not fit"),
             Status::ReadFault => String::from_str(alloc, "kted: reading the script failed"),
-            Status::BadScript => String::from_str(alloc, "kted: the script does not fit"),
+            Status::BadScript(fault) => script_line(alloc, fault),
             Status::DiskFault => String::from_str(alloc, "kted: the disk failed"),
             Status::NotUtf8 { at } => format!(in alloc; "kted: file is not UTF-8 at byte {at}"),
             Status::TooLarge { size: None } => String::from_str(alloc, "kted: file too long"),
@@ -72,6 +73,22 @@ impl Status {
     }
 }
 
+/// Returns the line of a script that is at fault.
+fn script_line(alloc: Global, fault: &ScriptFault) -> Result<String, AllocError>
+    ensures { IfOk result (λ text. string_bytes text ≡ script_line fault.now) }
+{
+    match fault {
+        ScriptFault::Bad { line, column } => {
+            format!(in alloc; "kted: script line {line} column {column}")
+        }
+        ScriptFault::TooMany { line } => {
+            format!(in alloc; "kted: script line {line} is one command too many")
+        }
+        ScriptFault::TooLong => String::from_str(alloc, "kted: script too long"),
+        ScriptFault::NoMemory => String::from_str(alloc, "kted: out of memory"),
+    }
+}
+
 impl From<AllocError> for Status {
     ghost from_gives = { λ _ given. given ≡ status.NoMemory };
 
@@ -80,11 +97,14 @@ impl From<AllocError> for Status {
     }
 }
 
-impl<T: Drop> From<AllocFailed<T>> for Status {
-    ghost from_gives = { λ _ given. given ≡ status.NoMemory };
+impl From<ScriptFault> for Status {
+    ghost from_gives = { λ fault given. given ≡ bad_script_status fault };
 
-    fn from(_error: AllocFailed<T>) -> Status {
-        Status::NoMemory
+    fn from(fault: ScriptFault) -> Status {
+        match fault {
+            ScriptFault::NoMemory => Status::NoMemory,
+            fault => Status::BadScript(fault),
+        }
     }
 }
 
@@ -94,7 +114,7 @@ impl From<ReadFault> for Status {
     fn from(fault: ReadFault) -> Status {
         match fault {
             ReadFault::Failed => Status::ReadFault,
-            ReadFault::TooLong => Status::BadScript,
+            ReadFault::TooLong => Status::BadScript(ScriptFault::TooLong),
             ReadFault::NoMemory => Status::NoMemory,
         }
     }

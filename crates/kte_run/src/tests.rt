@@ -1,12 +1,14 @@
 ghost use Rattle.std.specs.Prelude.{Some, None};
 ghost use Rattle.kte_causes.specs.Faults.{last_count};
 
-use crate::{Status, Word, run};
+use crate::{Status, run};
 use kte_causes::{
     CalmDisk, CalmSink, CalmSource, Disk, DiskCall, DiskFail, DiskPlan, MemDisk, MemSink,
     MemSource, Sink, SinkFail, read_whole,
 };
+use kte_script::ScriptFault;
 use kte_text::MAX_FILE_LENGTH;
+use kte_words::Word;
 use std::alloc::{AllocError, Global};
 use std::test::Fail;
 
@@ -42,7 +44,7 @@ fn outcome(
     let alloc = rt.alloc();
     let words = words(alloc, texts)?;
     let mut source = CalmSource::new(script.to_vec(alloc)?);
-    let mut disk = CalmDisk::new(file.to_vec(alloc)?);
+    let mut disk = CalmDisk::new(file.to_vec(alloc)?, Vec::new(alloc));
     let mut sink = CalmSink::new(alloc);
     let status = run(rt, alloc, &words, &mut source, &mut disk, &mut sink);
     Ok((ended(status)?, sink.bytes().to_vec(alloc)?))
@@ -78,9 +80,10 @@ fn one_insertion_from_bytes_to_bytes(rt: HostRuntime) -> Result<(), Fail> {
 }
 
 #[test]
-fn scripts_of_the_form(rt: HostRuntime) -> Result<(), Fail> {
-    let table: [(&[u8], &[u8]); 9] = [
+fn a_script_has_comments_and_spare_spaces(rt: HostRuntime) -> Result<(), Fail> {
+    let table: [(&[u8], &[u8]); 7] = [
         (b"", b"text\n|hello\n|\n"),
+        (b"\n# nothing\n  insert  00 005   \"!\" \r\n\n", OUTPUT),
         (
             b"wrap 0 4\nremove 1 1 1 0",
             b"edited 1 1 0\nedited 1 2 0\ntext\n|hell\n|\n|\n",
@@ -89,10 +92,10 @@ fn scripts_of_the_form(rt: HostRuntime) -> Result<(), Fail> {
             b"where 4294967295\n",
             b"refused norange 4294967295\ntext\n|hello\n|\n",
         ),
-        (b"insert 0 5 \"!\"\n", OUTPUT),
-        (b"insert 00 005 \"!\"", OUTPUT),
-        (b"insert 0000000000 0000000005 \"!\"", OUTPUT),
-        (b"insert 0 5 \" a\"", b"edited 1 1 0\ntext\n|hello a\n|\n"),
+        (
+            b"insert 0 5 \"\\t\\\\\\\"\xC3\xA9\"",
+            b"edited 1 1 0\ntext\n|hello\t\\\"\xC3\xA9\n|\n",
+        ),
         (
             b"insert 0 1073741824 \"!\"",
             b"refused nocolumn 0 1073741824\ntext\n|hello\n|\n",
@@ -104,47 +107,47 @@ fn scripts_of_the_form(rt: HostRuntime) -> Result<(), Fail> {
         assert_eq!(rt; ended, 0);
         assert_eq!(rt; written.as_slice(), output);
     }
+    let (ended, written) = edit(&rt, b"wrap 0 1", b"\xF0\x9F\x98\x80")?;
+    assert_eq!(rt; ended, 0);
+    assert_eq!(rt;
+        written.as_slice(),
+        b"refused splitspair 0 1\ntext\n|\xF0\x9F\x98\x80\n".as_slice()
+    );
     Ok(())
 }
 
 #[test]
-fn scripts_not_of_the_form(rt: HostRuntime) -> Result<(), Fail> {
-    let table: [&[u8]; 29] = [
-        b"\n",
-        b"insert",
-        b"insert 0 5 \"!\"\n\n",
-        b"insert 0 5 \"!\"\ninsert 0 5",
-        b"undo",
-        b"wrap 0",
-        b"unwrap 0 0",
-        b"remove 0 0 1 0",
-        b"range 0 0 0 1 none",
-        b"range 0 0 0 1 some allow",
-        b"range 0 0 0 1 none maybe",
-        b"setrange 1 0 0 0",
-        b"droprange -1",
-        b"where",
-        b"where 4294967296",
-        b"insert 0 5 \"!\"\r\n",
-        b"insert 00000000000 5 \"!\"",
-        b"insert 0 00000000005 \"!\"",
-        b"insert 1073741825 5 \"!\"",
-        b"insert 0 1073741825 \"!\"",
-        b"insert 0 x \"!\"",
-        b"insert 0 5 \"!",
-        b"insert 0 5 \"",
-        b"insert 0 5 \"a\"b\"",
-        b"insert 0 5 \"a\\b\"",
-        b"insert  0 5 \"!\"",
-        b" insert 0 5 \"!\"",
-        b"insert 0 5 \"!\" ",
-        b"insert\t0 5 \"!\"",
+fn a_script_at_fault_is_named(rt: HostRuntime) -> Result<(), Fail> {
+    let table: [(&[u8], u64, u64); 4] = [
+        (b"insert 0 x \"a\"", 1, 10),
+        (b"insert 0 5 \"!\"\ninsert 0 5", 2, 11),
+        (b"insert 0 0 \"\xFF\"", 1, 13),
+        (b"undo", 1, 1),
     ];
-    for script in table {
-        let (ended, written) = edit(&rt, script, FILE)?;
-        assert_eq!(rt; ended, 4);
+    for (script, line, column) in table {
+        // The script is judged before the file, which is not UTF-8.
+        let (status, written) = outcome(&rt, &["edit", "file"], script, b"\xC3")?;
+        let fault = ScriptFault::Bad { line, column };
+        assert_eq!(rt; status, Status::BadScript(fault));
         assert!(rt; written.is_empty());
     }
+    Ok(())
+}
+
+#[test]
+fn a_revision_that_is_locked_twice(rt: HostRuntime) -> Result<(), Fail> {
+    let script = b"lock\nlock\nunlock 0\ninsert 0 0 \"x\"\nland 0 0 1 0 2 none allow\nunlock 0\n\
+land 0 0 1 0 2 none allow\nunlock 0\n";
+    let output = b"locked 0\nlocked 0\nunlocked 0\nedited 1 1 0\nlanded 0 2 0 3\nunlocked 0\n\
+refused notlocked 0 none\nrefused notowned 0\ntext\n|xab\n|\n";
+    let (ended, written) = edit(&rt, script, b"ab\n")?;
+    assert_eq!(rt; ended, 0);
+    assert_eq!(rt; written.as_slice(), output.as_slice());
+    let script = b"lock\nunwrap 1\nland 0 0 10 1 2 none allow\nland 0 0 10 1 2 none void\n";
+    let output = b"locked 0\nedited 1 1 0\nlanded 0 10 0 10\nlanded invalid\ntext\n|abcde\n";
+    let (ended, written) = edit(&rt, script, b"abc\nde")?;
+    assert_eq!(rt; ended, 0);
+    assert_eq!(rt; written.as_slice(), output.as_slice());
     Ok(())
 }
 
@@ -223,7 +226,7 @@ fn script_of_letters(alloc: Global, letters: usize) -> Result<Vec<u8>, Fail> {
 struct LongDisk {}
 
 impl Disk for LongDisk {
-    ghost saved = { λ _. None };
+    ghost moments = { λ _. None };
 
     ghost faults = { λ _ _. last_count };
 
@@ -234,19 +237,35 @@ impl Disk for LongDisk {
     fn saved_at(&mut self, _from: u64, _buf: &mut [u8]) -> Result<(), DiskFail> {
         Err(DiskFail::Failed)
     }
+
+    fn swap_len(&mut self) -> Result<u64, DiskFail> {
+        Err(DiskFail::Failed)
+    }
+
+    fn swap_at(&mut self, _from: u64, _buf: &mut [u8]) -> Result<(), DiskFail> {
+        Err(DiskFail::Failed)
+    }
+
+    fn append(&mut self, _bytes: &[u8]) -> Result<(), DiskFail> {
+        Err(DiskFail::Failed)
+    }
+
+    fn sync(&mut self) -> Result<(), DiskFail> {
+        Err(DiskFail::Failed)
+    }
+
+    fn replace(&mut self, _bytes: &[u8]) -> Result<(), DiskFail> {
+        Err(DiskFail::Failed)
+    }
+
+    fn reset(&mut self) -> Result<(), DiskFail> {
+        Err(DiskFail::Failed)
+    }
 }
 
 #[test]
-fn the_longest_script_and_a_file_too_long(rt: HostRuntime) -> Result<(), Fail> {
+fn a_file_that_is_too_long(rt: HostRuntime) -> Result<(), Fail> {
     let alloc = rt.alloc();
-    let script = script_of_letters(alloc, 65_523)?;
-    assert_eq!(rt; script.len(), 65_536);
-    let (code, _) = edit(&rt, &script, FILE)?;
-    assert_eq!(rt; code, 0);
-    let (code, written) = edit(&rt, &script_of_letters(alloc, 65_524)?, FILE)?;
-    assert_eq!(rt; code, 4);
-    assert!(rt; written.is_empty());
-
     let words = words(alloc, &["edit", "file"])?;
     let mut source = CalmSource::new(SCRIPT.to_vec(alloc)?);
     let mut sink = CalmSink::new(alloc);
@@ -280,7 +299,7 @@ fn a_read_that_fails_in_mid_stream(rt: HostRuntime) -> Result<(), Fail> {
     let alloc = rt.alloc();
     let words = words(alloc, &["edit", "file"])?;
     let mut script = MemSource::new(script_of_letters(alloc, 4987)?, vec![in alloc; 1]?);
-    let mut disk = CalmDisk::new(FILE.to_vec(alloc)?);
+    let mut disk = CalmDisk::new(FILE.to_vec(alloc)?, Vec::new(alloc));
     let mut sink = CalmSink::new(alloc);
     let status = run(&rt, alloc, &words, &mut script, &mut disk, &mut sink);
     assert_eq!(rt; ended(status)?, Status::ReadFault);
@@ -314,7 +333,7 @@ fn a_write_that_fails_leaves_the_first_of_the_output(rt: HostRuntime) -> Result<
     let table: [(u64, &[u8]); 2] = [(0, b""), (1, b"edit")];
     for (failing, first) in table {
         let mut script = CalmSource::new(SCRIPT.to_vec(alloc)?);
-        let mut disk = CalmDisk::new(FILE.to_vec(alloc)?);
+        let mut disk = CalmDisk::new(FILE.to_vec(alloc)?, Vec::new(alloc));
         let mut sink = SlowSink {
             sink: MemSink::new(alloc, vec![in alloc; failing]?),
         };
@@ -331,8 +350,12 @@ fn a_disk_that_fails(rt: HostRuntime) -> Result<(), Fail> {
     let words = words(alloc, &["edit", "file"])?;
     for call in [DiskCall::SavedLen, DiskCall::SavedAt] {
         let mut script = CalmSource::new(SCRIPT.to_vec(alloc)?);
-        let plan = DiskPlan { call, nth: 0 };
-        let mut disk = MemDisk::new(FILE.to_vec(alloc)?, vec![in alloc; plan]?);
+        let plan = DiskPlan {
+            call,
+            nth: 0,
+            done: 0,
+        };
+        let mut disk = MemDisk::new(FILE.to_vec(alloc)?, Vec::new(alloc), vec![in alloc; plan]?);
         let mut sink = CalmSink::new(alloc);
         let status = run(&rt, alloc, &words, &mut script, &mut disk, &mut sink);
         assert_eq!(rt; ended(status)?, Status::DiskFault);
@@ -353,7 +376,24 @@ fn each_status_has_its_code_and_its_line(rt: HostRuntime) -> Result<(), Fail> {
         (Status::NoMemory, 1, "kted: out of memory"),
         (Status::BadWords { at: 12 }, 2, "kted: word 12 does not fit"),
         (Status::ReadFault, 3, "kted: reading the script failed"),
-        (Status::BadScript, 4, "kted: the script does not fit"),
+        (
+            Status::BadScript(ScriptFault::Bad {
+                line: 1,
+                column: 10,
+            }),
+            4,
+            "kted: script line 1 column 10",
+        ),
+        (
+            Status::BadScript(ScriptFault::TooMany { line: 100_001 }),
+            4,
+            "kted: script line 100001 is one command too many",
+        ),
+        (
+            Status::BadScript(ScriptFault::TooLong),
+            4,
+            "kted: script too long",
+        ),
         (Status::DiskFault, 5, "kted: the disk failed"),
         (Status::WriteFault, 10, "kted: writing failed"),
         (

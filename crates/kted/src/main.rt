@@ -5,7 +5,8 @@
 #![tactic(auto)]
 
 use kte_causes::{CalmDisk, FileDisk, StdSink, StdSource};
-use kte_run::{Status, Word, run};
+use kte_run::{Status, run};
+use kte_words::{Word, parse};
 use std::alloc::{AllocError, Global};
 use std::env::{Env, FillError};
 use std::io;
@@ -54,18 +55,20 @@ fn word(rt: &(impl Env + Alloc<A = Global>), n: usize) -> Result<Option<Word>, A
     Err(AllocError)
 }
 
-/// Runs the words over the real streams, and over the file that the second one names.
+/// Runs the words over the real streams, and over the file that they name. If they are no command,
+/// no file is touched.
 fn edit(rt: &HostRuntime, words: &[Word]) -> Status {
     let alloc = rt.alloc();
     let mut script = StdSource::new(rt.reader());
     let mut out = StdSink::new(io::writer(rt));
-    match words.get(1) {
+    let file = parse(words).ok().and_then(|command| command.file());
+    match file.and_then(|at| words.get(at as usize)) {
         Some(file) => {
-            let mut disk = FileDisk::new(rt, file.as_str());
+            let mut disk = FileDisk::new(alloc, rt, file.as_str());
             run(rt, alloc, words, &mut script, &mut disk, &mut out)
         }
         None => {
-            let mut disk = CalmDisk::new(Vec::new(alloc));
+            let mut disk = CalmDisk::new(Vec::new(alloc), Vec::new(alloc));
             run(rt, alloc, words, &mut script, &mut disk, &mut out)
         }
     }

@@ -1,11 +1,11 @@
 use Rattle.std.proofs.Common.{◌-◌, ◌≡◌, ◌≤◌, vec_len}
-use Rattle.kte_causes.specs.Contents.{Takes}
+use Rattle.std.specs.Io.KnownBytes.{Consumes}
 use Rattle.kte_causes.proofs.whole.read_whole.Given as goal
 
 abbrev pub invariant-loop-bytes : goal.invariant-loop-bytes
 invariant-loop-bytes g l = record {
   within : vec_len l.bytes ≤ l.limit;
-  bytes : Takes l.bytes.items (g.S.Source.left l.fn.source) (g.S.Source.left l.source);
+  bytes : Consumes (g.S.Source.left l.fn.source) (g.S.Source.left l.source) l.bytes.items;
   calm : g.S.Source.faults l.source ≡ g.S.Source.faults l.fn.source;
 }
 

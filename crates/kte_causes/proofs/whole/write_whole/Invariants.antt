@@ -1,11 +1,11 @@
 use Rattle.std.proofs.Common.{length, ◌-◌, ◌≡◌, ◌≤◌, take}
-use Rattle.kte_causes.specs.Contents.{Gains}
+use Rattle.std.specs.Io.KnownBytes.{Appends}
 use Rattle.kte_causes.proofs.whole.write_whole.Given as goal
 
 abbrev pub invariant-loop-written : goal.invariant-loop-written
 invariant-loop-written g l = record {
   within : l.written ≤ length l.bytes;
-  bytes : Gains (take l.written l.bytes) (g.O.Sink.got l.fn.sink) (g.O.Sink.got l.sink);
+  bytes : Appends (g.O.Sink.got l.fn.sink) (g.O.Sink.got l.sink) (take l.written l.bytes);
   calm : g.O.Sink.faults l.sink ≡ g.O.Sink.faults l.fn.sink;
 }
 

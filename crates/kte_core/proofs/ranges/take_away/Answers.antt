@@ -6,4 +6,4 @@ pub returns-in-Ok : goal.returns-in-Ok
 returns-in-Ok c = λ state is_of.
     Replies-drop state c.args.doc.now c.drop_range.new.self c.args.id is_of
     (λ none. let refused = rw none at c.in-Ok.ensures.found in cc)
-    c.drop_range.ensures.trail (ap (λ d. d.limit) c.in-Ok.ensures.ok) (ap (λ d. d.ranges) c.in-Ok.ensures.ok) (ap (λ d. d.next) c.in-Ok.ensures.ok)
+    c.drop_range.ensures.trail (ap (λ d. d.limit) c.in-Ok.ensures.ok) (ap (λ d. d.ranges) c.in-Ok.ensures.ok) (ap (λ d. d.next) c.in-Ok.ensures.ok) (ap (λ d. d.locks) c.in-Ok.ensures.ok)

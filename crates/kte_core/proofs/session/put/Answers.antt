@@ -14,6 +14,6 @@ returns-clause-meets c = λ state is_of.
     elim c.if-not-is_empty.branch [
       | then-not-is_empty+in_ok-copy+in_ok-push+in-Ok w ↦ Meets-one state c.args.doc.now c.if-not-is_empty.doc c.args.step.now _ _ is_of fits (cc)
           (w.made-is ∙ w.in_ok-push.ensures.ok ∙ ap (λ (made : List Primitive). made ++ w.in_ok-copy.field-0 ∷ []) c.new-made.ensures ∙ ap (λ (p : Primitive). p ∷ []) w.in_ok-copy.ensures) (cc)
-          (rw w.doc-is w.in-Ok.ensures.trail) (rw w.doc-is (ap (λ (d : Document). d.limit) w.in-Ok.ensures.ok)) (λ id. ap (λ (d : Document). get d.ranges id) w.doc-is ∙ w.in-Ok.ensures.ranges id) (rw w.doc-is (ap (λ (d : Document). d.next) w.in-Ok.ensures.ok))
+          (rw w.doc-is w.in-Ok.ensures.trail) (rw w.doc-is (ap (λ (d : Document). d.limit) w.in-Ok.ensures.ok)) (λ id. ap (λ (d : Document). get d.ranges id) w.doc-is ∙ w.in-Ok.ensures.ranges id) (rw w.doc-is (ap (λ (d : Document). d.next) w.in-Ok.ensures.ok)) (rw w.doc-is (ap (λ (d : Document). d.locks) w.in-Ok.ensures.ok))
       | else-not-is_empty w ↦ Meets-nothing state c.args.doc.now c.if-not-is_empty.doc c.args.step.now _ is_of fits (cc) (w.made-is ∙ c.new-made.ensures) (cc) w.doc-is
     ]

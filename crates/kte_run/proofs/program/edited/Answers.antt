@@ -1,7 +1,7 @@
 use Rattle.std.proofs.Common.{refl, ap, ◌∙◌, ◌++◌, ◌∷◌, [], List}
 use Rattle.kte_core.specs.Replay.{Session}
 use Rattle.kte_core.specs.declared.event.Event.{Event}
-use Rattle.kte_core.specs.declared.request.Command.{Command}
+use Rattle.kte_command.specs.declared.command.Command.{Command}
 use Rattle.kte_core.specs.declared.request.Request.TheVariants.{Cmd}
 use Rattle.kte_run.specs.Run.{commands_in}
 use Rattle.kte_run.proofs.Journals.{commands_in-push}

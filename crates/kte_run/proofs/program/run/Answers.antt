@@ -1,12 +1,37 @@
-use Rattle.std.proofs.Common.{refl, arith, ap, Err}
-use Rattle.kte_run.proofs.Answering.{spells-bad, script-spelled, file-refused, file-loadable, sink-failed}
+use Rattle.std.proofs.Common.{◌≡◌, ◌∙◌, refl, arith, ap, Err, Some}
+use Rattle.kte_causes.specs.Moments.{saved_now}
+use Rattle.kte_run.specs.declared.status.Status.TheVariants as status
+use Rattle.kte_script.specs.declared.fault.ScriptFault.TheVariants as fault
+use Rattle.kte_run.proofs.Answering.{spells-bad, script-spelled, script-bad, script-complete, file-refused, file-loadable, sink-failed}
 use Rattle.kte_run.proofs.program.run.Goals as goal
 
-pub returns-in-Err-read_commands-clause-refused_comes :
-    goal.returns-in-Err-read_commands-clause-refused_comes
-returns-in-Err-read_commands-clause-refused_comes g c = λ fault fits spells refused.
-    script-spelled c.in-Err-read_commands.status _ _ c.in-Err-read_commands.ensures.only
-    (λ bad. spells-bad (g.S.Source.left c.args.script.now) spells (c.in-Err-read_commands.ensures.bad_script (ap Err bad)).1)
+pub returns-in-Some-clause-bad_words : goal.returns-in-Some-clause-bad_words
+returns-in-Some-clause-bad_words g c = λ at. (
+  λ is. let same : c.in-Some.at ≡ at = cc is in (c.first_misfit.ensures.misfit at).0 (c.in-Some.is ∙ ap Some same),
+  λ misfit. let other = (c.first_misfit.ensures.misfit at).1 misfit in let same : c.in-Some.at ≡ at = cc (c.in-Some.is, other) in ap status.BadWords same,
+)
+
+pub returns-in-Err-clause-bad_script : goal.returns-in-Err-clause-bad_script
+returns-in-Err-clause-bad_script g c = λ fault is.
+    let bad = c.in-Err.ensures.bad_script fault (ap Err is) in (bad.1, bad.2, refl, refl)
+
+pub returns-in-Err-clause-bad_script_comes : goal.returns-in-Err-clause-bad_script_comes
+returns-in-Err-clause-bad_script_comes g c = λ fault fits bad.
+    script-bad c.in-Err.status (g.S.Source.left c.args.script.now) fault c.in-Err.ensures.only
+    (λ other is. (c.in-Err.ensures.bad_script other (ap Err is)).2) bad
+
+pub returns-in-Err-clause-bad_script_named : goal.returns-in-Err-clause-bad_script_named
+returns-in-Err-clause-bad_script_named g c = λ is. (c.in-Err.ensures.bad_script fault.NoMemory (ap Err is)).0 refl
+
+pub returns-in-Err-clause-refused_comes : goal.returns-in-Err-clause-refused_comes
+returns-in-Err-clause-refused_comes g c = λ fault fits spells refused.
+    script-spelled c.in-Err.status _ _ c.in-Err.ensures.only
+    (λ fault bad. spells-bad (g.S.Source.left c.args.script.now) fault spells (c.in-Err.ensures.bad_script fault (ap Err bad)).2)
+
+pub returns-in-Err-clause-complete : goal.returns-in-Err-clause-complete
+returns-in-Err-clause-complete g c = λ fits spells loadable.
+    script-complete c.in-Err.status c.in-Err.ensures.only
+    (λ fault bad. spells-bad (g.S.Source.left c.args.script.now) fault spells (c.in-Err.ensures.bad_script fault (ap Err bad)).2)
 
 pub returns-in-Err-load_saved-clause-refused_comes :
     goal.returns-in-Err-load_saved-clause-refused_comes
@@ -15,7 +40,7 @@ returns-in-Err-load_saved-clause-refused_comes g c = λ fault fits spells refuse
 
 pub returns-in-Err-load_saved-clause-complete : goal.returns-in-Err-load_saved-clause-complete
 returns-in-Err-load_saved-clause-complete g c = λ fits spells loadable.
-    file-loadable c.in-Err-load_saved.status (g.D.Disk.saved c.args.disk.now) c.in-Err-load_saved.ensures.only
+    file-loadable c.in-Err-load_saved.status (saved_now (g.D.Disk.moments c.args.disk.now)) c.in-Err-load_saved.ensures.only
     (λ fault some is. (c.in-Err-load_saved.ensures.refused fault some (ap Err is)).1) loadable
 
 pub returns-in_default-edited-clause-complete : goal.returns-in_default-edited-clause-complete

@@ -8,4 +8,4 @@ invariant_of-result c =
     IsSound-new (record { loaded = c.args.loaded; limit = c.args.revisions; doc = c.in_ok-doc.doc; journal = c.new-2.result })
     c.new-2.ensures
     (subst (λ text. CameBy text [] c.in_ok-doc.doc) c.in_ok-copy.ensures c.in_ok-doc.ensures.came)
-    (ap (λ d. d.limit) c.in_ok-doc.ensures.ok) (ap (λ d. d.ranges) c.in_ok-doc.ensures.ok) (ap (λ d. d.next) c.in_ok-doc.ensures.ok)
+    (ap (λ d. d.limit) c.in_ok-doc.ensures.ok) (ap (λ d. d.ranges) c.in_ok-doc.ensures.ok) (ap (λ d. d.next) c.in_ok-doc.ensures.ok) (ap (λ d. d.locks) c.in_ok-doc.ensures.ok)

@@ -4,6 +4,7 @@ use Rattle.kte_ranges.specs.declared.table.NoRange.{NoRange}
 use Rattle.std.specs.FinMap.{get, remove}
 use Rattle.kte_ranges.specs.Cursors.{is_among}
 use Rattle.kte_doc.specs.Inside.{farthest_at, CursorsFit}
+use Rattle.kte_doc.specs.Documents.{CameBy}
 use Rattle.kte_doc.proofs.Fields.{by_fields}
 use Rattle.kte_doc.proofs.Looks.{found, not_found, was_there, was_not_there}
 use Rattle.kte_doc.proofs.Calls.{hangs_of, drop_fits, drop_ranges}
@@ -26,13 +27,13 @@ pub invariant_of-self-2 : goal.invariant_of-self-2
 invariant_of-self-2 c =
     let it = found (λ info. info.cursors) _ _ _ c.in_ok-cursors.ensures.cursors in
     let fit = drop_fits c.self.inside.buffer.hung c.self.inside.buffer.hung c.unhang.new.buffer.hung c.self.inside.ranges.ranges c.drop_range.new.self.ranges
-    (length c.self.inside.buffer.text) (farthest_at c.self.inside.revision) c.args.id (Some it.0) c.self.invariant.cursors it.1.0
+    (length c.self.inside.buffer.text) (farthest_at c.self.inside.history.revision) c.args.id (Some it.0) c.self.invariant.cursors it.1.0
     (λ n. c.unhang.ensures.hung n ∙ ap (λ o. if is_among o n then None else get c.self.inside.buffer.hung n) it.1.1)
     c.in_ok-cursors.ensures.ok refl in
     record {
       within = c.self.invariant.within;
       small = c.self.invariant.small;
-      cursors = subst (λ (text : List (List ℕ)). CursorsFit c.unhang.new.buffer.hung c.drop_range.new.self.ranges (length text) (farthest_at c.self.inside.revision))
+      cursors = subst (λ (text : List (List ℕ)). CursorsFit c.unhang.new.buffer.hung c.drop_range.new.self.ranges (length text) (farthest_at c.self.inside.history.revision))
           (sym c.unhang.ensures.text) fit;
     }
 
@@ -46,17 +47,16 @@ ok c =
     let it = found (λ info. info.cursors) _ _ _ c.in_ok-cursors.ensures.cursors in
     by_fields _ _ (c.unhang.ensures.text ∙ ap (λ d. d.text) c.self.view_is) (ap (λ d. d.revision) c.self.view_is) (ap (λ d. d.limit) c.self.view_is)
     (drop_ranges c.self.inside.buffer.hung c.self.inside.buffer.hung c.unhang.new.buffer.hung c.self.inside.ranges.ranges c.drop_range.new.self.ranges
-    (length c.self.inside.buffer.text) (farthest_at c.self.inside.revision) c.args.id (Some it.0) c.self.invariant.cursors it.1.0
+    (length c.self.inside.buffer.text) (farthest_at c.self.inside.history.revision) c.args.id (Some it.0) c.self.invariant.cursors it.1.0
     (λ n. c.unhang.ensures.hung n ∙ ap (λ o. if is_among o n then None else get c.self.inside.buffer.hung n) it.1.1)
     c.in_ok-cursors.ensures.ok refl
     ∙ ap (λ d. remove d.ranges c.args.id) c.self.view_is)
     (c.drop_range.ensures.next ∙ ap (λ d. d.next) c.self.view_is)
+    (ap (λ d. d.locks) c.self.view_is) (ap (λ d. d.kept) c.self.view_is)
 
 pub returns-clause-ok : goal.returns-clause-ok
 returns-clause-ok c = ok c
 
 pub returns-clause-trail : goal.returns-clause-trail
 returns-clause-trail c loaded trail came =
-    let new = ok c in
-    CameBy-drop loaded trail c.args.self.now _ c.args.id came
-    (ap (λ d. d.text) new) (ap (λ d. d.revision) new) (ap (λ d. d.next) new) (ap (λ d. d.ranges) new)
+    subst (CameBy loaded trail) (sym (ok c)) (CameBy-drop loaded trail c.args.self.now c.args.id came)

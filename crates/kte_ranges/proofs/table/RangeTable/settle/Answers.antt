@@ -23,7 +23,7 @@ settle_rows-requires-clause-ready g c =
 pub invariant_of-self : goal.invariant_of-self
 invariant_of-self g c =
     let now = written_settled _ _ _ _ _ c.settle_rows.ensures.rows c.as_mut_slice.ensures.value c.as_mut_slice.ensures.len in
-    rw now (fits_settled _ _ _ c.self.invariant)
+    rw now (fits_settled _ _ _ _ c.self.invariant)
 
 pub returns-clause-ranges : goal.returns-clause-ranges
 returns-clause-ranges g c =

@@ -1,0 +1,89 @@
+ghost use Rattle.std.specs.Prelude.{◌≡◌, IfOk};
+
+use kte_place::{Empty, Expand, Span};
+use kte_text::Primitive;
+use std::alloc::{AllocError, Global};
+
+/// A command of a script. Lines and columns of its spans are at most 2^30.
+#[derive(Debug, Drop)]
+pub enum Command {
+    /// Makes one primitive, or none where it would insert or remove nothing.
+    Put {
+        step: Primitive,
+    },
+    /// Makes a range. It gets the next number, from 1.
+    MakeRange {
+        span: Span,
+        expand: Expand,
+        empty: Empty,
+    },
+    /// Sets a range to another span. Whether it expands and may be empty is unchanged.
+    SetRange {
+        id: u64,
+        span: Span,
+    },
+    /// Removes a range. Its number is not used again.
+    DropRange {
+        id: u64,
+    },
+    /// Asks where a range stands.
+    ShowRange {
+        id: u64,
+    },
+    /// Locks the present revision for the editor.
+    Lock,
+    /// Removes one of the editor's locks on a revision.
+    Unlock {
+        revision: u64,
+    },
+    /// Asks where a span of the text at a revision is now, as if a range had been made there.
+    Land {
+        revision: u64,
+        span: Span,
+        expand: Expand,
+        empty: Empty,
+    },
+}
+
+impl Command {
+    /// Returns an equal command. Fails if out of memory.
+    pub fn copy(&self, alloc: Global) -> Result<Command, AllocError>
+        ensures { IfOk result (λ command. command ≡ self.now) }
+    {
+        match self {
+            Command::Put { step } => Ok(Command::Put {
+                step: step.copy(alloc)?,
+            }),
+            Command::MakeRange {
+                span,
+                expand,
+                empty,
+            } => Ok(Command::MakeRange {
+                span: *span,
+                expand: *expand,
+                empty: *empty,
+            }),
+            Command::SetRange { id, span } => Ok(Command::SetRange {
+                id: *id,
+                span: *span,
+            }),
+            Command::DropRange { id } => Ok(Command::DropRange { id: *id }),
+            Command::ShowRange { id } => Ok(Command::ShowRange { id: *id }),
+            Command::Lock => Ok(Command::Lock),
+            Command::Unlock { revision } => Ok(Command::Unlock {
+                revision: *revision,
+            }),
+            Command::Land {
+                revision,
+                span,
+                expand,
+                empty,
+            } => Ok(Command::Land {
+                revision: *revision,
+                span: *span,
+                expand: *expand,
+                empty: *empty,
+            }),
+        }
+    }
+}

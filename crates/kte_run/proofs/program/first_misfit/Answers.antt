@@ -1,0 +1,14 @@
+use Rattle.std.proofs.Common.{◌≡◌, ap, Some, subst}
+use Rattle.kte_words.specs.Words.{FirstMisfit}
+use Rattle.kte_words.specs.declared.parsing.BadWords.{BadWords}
+use Rattle.kte_run.proofs.program.first_misfit.Goals as goal
+
+pub returns-in-Err-clause-misfit : goal.returns-in-Err-clause-misfit
+returns-in-Err-clause-misfit c = λ at. (
+  λ is. let same : c.in-Err.fault.at ≡ at = cc is in subst (λ (n : _). FirstMisfit c.args.words.now n) same ((c.parse.ensures.misfit c.in-Err.fault).0 c.in-Err.is),
+  λ misfit.
+      let bad : BadWords = record { at = at } in
+      let other = (c.parse.ensures.misfit bad).1 misfit in
+      let same : c.in-Err.fault ≡ bad = cc (c.in-Err.is, other) in
+      ap (λ (fault : BadWords). Some fault.at) same,
+)

@@ -1,0 +1,403 @@
+-- Strings in words: each byte stands for itself or is written by an escape.
+use Rattle.std.proofs.Common.{◌≡◌, ◌≢◌, ℕ, ◌+◌, ◌*◌, ◌/◌, ◌%◌, ◌<◌, Bool, true, false, cond, nat_eq, nat_le, ◌&&◌, ◌-◌, List, [], ◌∷◌, ◌++◌, length, Option, None, Some, Ok, Err, refl, sym, ap, ◌∙◌, subst, append_assoc, arith, inl, inr, ◌⊎◌}
+use Rattle.std.specs.Option.{option_and_then}
+use Rattle.std.specs.List.{list_any}
+use Rattle.std.specs.Char.{is_ascii_digit}
+use Rattle.std.specs.Str.{is_utf8}
+use Rattle.std.proofs.lemmas.Bool.{eqb-true}
+use Rattle.std.proofs.lemmas.Bool.Decides.{nat_tests}
+use Rattle.std.proofs.lemmas.Str.{IsUtf8-from_is_utf8}
+use Rattle.kte_text.specs.Units.{IsLine, is_line_end, utf8_of}
+use Rattle.kte_text.specs.Reading.{utf16_of}
+use Rattle.kte_text.proofs.CharLemmas.{IsLine-utf16_of, utf8_of-utf16_of}
+use Rattle.kte_script.specs.Words.{ends_here}
+use Rattle.kte_script.specs.Strings.{Mode, Plain, Escape, Code, Digit, Quoted, hex_value, hex_digit, is_coded, is_plain, with_byte, string_from, string_at, line_in}
+use Rattle.kte_script.specs.Fields.{Reading, quoted, held}
+use Rattle.kte_script.specs.InWords.{MaySpell, MaySpellAll, IsQuoted, starts_otherwise}
+use Rattle.kte_script.proofs.StringLemmas.{first_plain, line_in-utf8_of}
+use Rattle.kte_script.proofs.QuotedLemmas.{code_again}
+use Rattle.kte_script.proofs.ReadsLemmas.{Front, done_same}
+
+-- ---- what may be spelled is read
+
+coded_small : (byte : ℕ) → is_coded byte ≡ true → byte < 32
+coded_small byte h = grind (arith, nat_tests)
+
+coded_no_cr : (byte : ℕ) → is_coded byte ≡ true → byte ≢ 13
+coded_no_cr byte h is = absurd (grind (arith, nat_tests))
+
+coded_no_lf : (byte : ℕ) → is_coded byte ≡ true → byte ≢ 10
+coded_no_lf byte h is = absurd (grind (arith, nat_tests))
+
+-- the byte is read from this spelling
+abbrev IsReadFrom : ℕ → List ℕ → List ℕ → Type 0
+IsReadFrom byte spelled more = string_from Plain (spelled ++ more) ≡ with_byte byte (string_from Plain more)
+
+escaped_again : (byte escape : ℕ) (spelled more : List ℕ) → spelled ≡ 92 ∷ escape ∷ []
+    → string_from Escape (escape ∷ more) ≡ with_byte byte (string_from Plain more)
+    → IsReadFrom byte spelled more
+unfolding string_from
+escaped_again byte escape spelled more is e = rw is e
+
+by_code : (byte : ℕ) (more : List ℕ) → is_coded byte ≡ true
+    → string_from Plain (92 ∷ 120 ∷ hex_digit (byte / 16) ∷ hex_digit (byte % 16) ∷ more) ≡ with_byte byte (string_from Plain more)
+unfolding string_from
+by_code byte more h = code_again byte more (coded_small byte h) (coded_no_cr byte h) (coded_no_lf byte h)
+
+as_n : (more : List ℕ) → string_from Escape (110 ∷ more) ≡ with_byte 10 (string_from Plain more)
+unfolding string_from
+as_n more = refl
+
+as_t : (more : List ℕ) → string_from Escape (116 ∷ more) ≡ with_byte 9 (string_from Plain more)
+unfolding string_from
+as_t more = refl
+
+as_mark : (more : List ℕ) → string_from Escape (34 ∷ more) ≡ with_byte 34 (string_from Plain more)
+unfolding string_from
+as_mark more = refl
+
+as_slash : (more : List ℕ) → string_from Escape (92 ∷ more) ≡ with_byte 92 (string_from Plain more)
+unfolding string_from
+as_slash more = refl
+
+piece_read : (byte : ℕ) (spelled more : List ℕ) → MaySpell byte spelled → IsReadFrom byte spelled more
+piece_read byte spelled more (inl p) = rw p.1 (first_plain byte more p.0)
+piece_read byte spelled more (inr (inl p)) = rw p.1 (by_code byte more p.0)
+piece_read byte spelled more (inr (inr (inl p))) = escaped_again byte 110 spelled more p.1 (rw p.0 (as_n more))
+piece_read byte spelled more (inr (inr (inr (inl p)))) = escaped_again byte 116 spelled more p.1 (rw p.0 (as_t more))
+piece_read byte spelled more (inr (inr (inr (inr (inl p))))) = escaped_again byte 34 spelled more p.1 (rw p.0 (as_mark more))
+piece_read byte spelled more (inr (inr (inr (inr (inr p))))) = escaped_again byte 92 spelled more p.1 (rw p.0 (as_slash more))
+
+closing_read : (rest : List ℕ) → string_from Plain (34 ∷ rest) ≡ Some (record { text = []; rest = rest })
+unfolding string_from
+closing_read rest = refl
+
+pieces_read : (bytes inside rest : List ℕ) → MaySpellAll bytes inside
+    → string_from Plain (inside ++ 34 ∷ rest) ≡ Some (record { text = bytes; rest = rest })
+pieces_read [] inside rest is = rw is (closing_read rest)
+pieces_read (byte ∷ bytes) inside rest p =
+    let same : inside ++ 34 ∷ rest ≡ p.0 ++ (p.1 ++ 34 ∷ rest) = rw p.2 (append_assoc p.0 p.1 (34 ∷ rest)) in
+    ap (string_from Plain) same ∙ piece_read byte p.0 (p.1 ++ 34 ∷ rest) p.3
+    ∙ ap (with_byte byte) (pieces_read bytes p.1 rest p.4)
+
+-- ---- what is read may be spelled so
+
+-- a byte, spelled by what comes before and these bytes, and then the other bytes and the mark
+pub record Piece (before bytes : List ℕ) (quoted : Quoted) : Type 0 where
+  pub byte : ℕ
+  pub text : List ℕ
+  pub first : List ℕ
+  pub others : List ℕ
+  pub read : quoted.text ≡ byte ∷ text
+  pub parts : bytes ≡ first ++ (others ++ 34 ∷ quoted.rest)
+  pub spelled : MaySpell byte (before ++ first)
+  pub after : MaySpellAll text others
+
+-- the bytes up to the mark
+pub record Whole (bytes : List ℕ) (quoted : Quoted) : Type 0 where
+  pub inside : List ℕ
+  pub parts : bytes ≡ inside ++ 34 ∷ quoted.rest
+  pub spelled : MaySpellAll quoted.text inside
+
+abbrev Sound : Mode → List ℕ → Quoted → Type 0
+Sound Plain bytes quoted = Whole bytes quoted
+Sound Escape bytes quoted = Piece (92 ∷ []) bytes quoted
+Sound Code bytes quoted = Piece (92 ∷ 120 ∷ []) bytes quoted
+Sound (Digit high) bytes quoted =
+    (digit : ℕ) → hex_value digit ≡ Some high → Piece (92 ∷ 120 ∷ digit ∷ []) bytes quoted
+
+decide : (b : Bool) → (b ≡ true) ⊎ (b ≡ false)
+decide true = inl refl
+decide false = inr refl
+
+abbrev no_value : Option ℕ
+no_value = None
+
+none_some : (value : ℕ) → no_value ≡ Some value → ⊥
+none_some value e = cc
+
+some_same : (a b : ℕ) → Some a ≡ Some b → a ≡ b
+some_same a b e = cc
+
+digit_back : (digit : ℕ) → is_ascii_digit digit ≡ true → (digit ≡ hex_digit (digit - 48)) × (digit - 48 < 16)
+digit_back digit h = (grind (arith, nat_tests), grind (arith, nat_tests))
+
+letter_back : (digit : ℕ) → (nat_le 97 digit && nat_le digit 102) ≡ true → (digit ≡ hex_digit (digit - 87)) × (digit - 87 < 16)
+letter_back digit h = (grind (arith, nat_tests), grind (arith, nat_tests))
+
+by_digit : (digit value : ℕ) → is_ascii_digit digit ≡ true → Some (digit - 48) ≡ Some value
+    → (digit ≡ hex_digit value) × (value < 16)
+by_digit digit value h e = rw (← some_same (digit - 48) value e) (digit_back digit h)
+
+by_letter : (digit value : ℕ) → (nat_le 97 digit && nat_le digit 102) ≡ true → Some (digit - 87) ≡ Some value
+    → (digit ≡ hex_digit value) × (value < 16)
+by_letter digit value h e = rw (← some_same (digit - 87) value e) (letter_back digit h)
+
+hex_back : (digit value : ℕ) → hex_value digit ≡ Some value → (digit ≡ hex_digit value) × (value < 16)
+hex_back digit value e =
+    elim (decide (is_ascii_digit digit)) [
+      | inl yes' ↦ by_digit digit value yes' (rw yes' at e)
+      | inr no' ↦ elim (decide (nat_le 97 digit && nat_le digit 102)) [
+        | inl letter ↦ by_letter digit value letter (rw (no', letter) at e)
+        | inr other ↦ absurd (none_some value (rw (no', other) at e))
+      ]
+    ]
+
+with_some : (byte : ℕ) (o : Option Quoted) (quoted : Quoted) → with_byte byte o ≡ Some quoted
+    → (q : Quoted) × (o ≡ Some q) × (quoted.text ≡ byte ∷ q.text) × (quoted.rest ≡ q.rest)
+with_some byte None quoted e = absurd cc
+with_some byte (Some q) quoted e =
+    let is : record { text = byte ∷ q.text; rest = q.rest } ≡ quoted = cc in
+    (q, refl, ap (λ (x : Quoted). x.text) (sym is), ap (λ (x : Quoted). x.rest) (sym is))
+
+whole_of_piece : (before bytes : List ℕ) (quoted : Quoted) → Piece before bytes quoted → Whole (before ++ bytes) quoted
+whole_of_piece before bytes quoted p = record {
+  inside = (before ++ p.first) ++ p.others;
+  parts = rw p.parts (simp append_assoc);
+  spelled = rw p.read (before ++ p.first, p.others, refl, p.spelled, p.after);
+}
+
+piece_of_whole : (byte : ℕ) (before first bytes : List ℕ) (quoted q : Quoted) → MaySpell byte (before ++ first)
+    → quoted.text ≡ byte ∷ q.text → quoted.rest ≡ q.rest → Whole bytes q → Piece before (first ++ bytes) quoted
+piece_of_whole byte before first bytes quoted q may text rest w = record {
+  byte = byte;
+  text = q.text;
+  first = first;
+  others = w.inside;
+  read = text;
+  parts = ap (λ (xs : List ℕ). first ++ xs) (w.parts ∙ ap (λ (r : List ℕ). w.inside ++ 34 ∷ r) (sym rest));
+  spelled = may;
+  after = w.spelled;
+}
+
+-- a read byte with the string after it
+one_piece : (byte : ℕ) (before first bytes : List ℕ) (quoted : Quoted) → MaySpell byte (before ++ first)
+    → ((q : Quoted) → string_from Plain bytes ≡ Some q → Whole bytes q)
+    → with_byte byte (string_from Plain bytes) ≡ Some quoted → Piece before (first ++ bytes) quoted
+one_piece byte before first bytes quoted may later e =
+    let p = with_some byte (string_from Plain bytes) quoted e in
+    piece_of_whole byte before first bytes quoted p.0 may p.2 p.3 (later p.0 p.1)
+
+quoted_same : (a b : Quoted) → Some a ≡ Some b → a ≡ b
+quoted_same a b e = cc
+
+code_of : (high low digit digit' : ℕ) → digit ≡ hex_digit high → digit' ≡ hex_digit low → low < 16
+    → is_coded (16 * high + low) ≡ true → MaySpell (16 * high + low) (92 ∷ 120 ∷ digit ∷ digit' ∷ [])
+code_of high low digit digit' e f small h =
+    let up : (16 * high + low) / 16 ≡ high = omega arith in
+    let down : (16 * high + low) % 16 ≡ low = omega arith in
+    inr (inl (h, rw (up, down, e, f) refl))
+
+and_then_some : {A B : Type 0} (f : A → Option B) (o : Option A) (z : B) → option_and_then f o ≡ Some z
+    → (x : A) × (o ≡ Some x) × (f x ≡ Some z)
+and_then_some f None z e = absurd cc
+and_then_some f (Some x) z e = (x, refl, e)
+
+-- a byte more in front
+shift : (before bytes : List ℕ) (b : ℕ) (quoted : Quoted) → Piece (before ++ b ∷ []) bytes quoted
+    → Piece before (b ∷ bytes) quoted
+shift before bytes b quoted p =
+    let same : (before ++ b ∷ []) ++ p.first ≡ before ++ b ∷ p.first = append_assoc before (b ∷ []) p.first in
+    record {
+      byte = p.byte;
+      text = p.text;
+      first = b ∷ p.first;
+      others = p.others;
+      read = p.read;
+      parts = ap (λ (xs : List ℕ). b ∷ xs) p.parts;
+      spelled = subst (MaySpell p.byte) same p.spelled;
+      after = p.after;
+    }
+
+two : (a b : ℕ) → a ≡ b → 92 ∷ a ∷ [] ≡ 92 ∷ b ∷ []
+two a b e = ap (λ (c : ℕ). 92 ∷ c ∷ []) e
+
+closed_whole : (byte : ℕ) (bytes : List ℕ) (quoted : Quoted) → byte ≡ 34
+    → Some (record { text = []; rest = bytes }) ≡ Some quoted → Whole (byte ∷ bytes) quoted
+closed_whole byte bytes quoted is e =
+    subst (λ (q : Quoted). Whole (byte ∷ bytes) q) (quoted_same (record { text = []; rest = bytes }) quoted e)
+    (record { inside = []; parts = ap (λ (b : ℕ). b ∷ bytes) is; spelled = refl })
+
+slash_whole : (byte : ℕ) (bytes : List ℕ) (quoted : Quoted) → byte ≡ 92 → Piece (92 ∷ []) bytes quoted
+    → Whole (byte ∷ bytes) quoted
+slash_whole byte bytes quoted is p = rw is (whole_of_piece (92 ∷ []) bytes quoted p)
+
+code_piece : (byte : ℕ) (bytes : List ℕ) (quoted : Quoted) → byte ≡ 120 → Piece (92 ∷ 120 ∷ []) bytes quoted
+    → Piece (92 ∷ []) (byte ∷ bytes) quoted
+code_piece byte bytes quoted is p = rw is (shift (92 ∷ []) bytes 120 quoted p)
+
+no_quoted : {A : Type 0} (quoted : Quoted) → cond {A = Option Quoted} false None None ≡ Some quoted → A
+no_quoted quoted e = absurd cc
+
+string_sound : (mode : Mode) (bytes : List ℕ) (quoted : Quoted) → string_from mode bytes ≡ Some quoted
+    → Sound mode bytes quoted
+unfolding string_from
+string_sound Plain [] quoted e = absurd cc
+string_sound Escape [] quoted e = absurd cc
+string_sound Code [] quoted e = absurd cc
+string_sound (Digit high) [] quoted e = absurd cc
+string_sound Plain (byte ∷ bytes) quoted e =
+    elim (decide (nat_eq byte 34)) [
+      | inl mark ↦ closed_whole byte bytes quoted (eqb-true _ _ mark) (rw mark at e)
+      | inr e34 ↦ elim (decide (nat_eq byte 92)) [
+        | inl slash ↦
+            slash_whole byte bytes quoted (eqb-true _ _ slash)
+            (string_sound Escape bytes quoted (rw (e34, slash) at e))
+        | inr e92 ↦ elim (decide (is_plain byte)) [
+          | inl plain ↦
+              let test = rw (e34, e92) at plain in
+              whole_of_piece [] (byte ∷ bytes) quoted
+              (one_piece byte [] (byte ∷ []) bytes quoted (inl (plain, refl)) (λ q. string_sound Plain bytes q) (rw (e34, e92, test) at e))
+          | inr other ↦
+              let test = rw (e34, e92) at other in
+              no_quoted quoted (rw (e34, e92, test) at e)
+        ]
+      ]
+    ]
+string_sound Escape (byte ∷ bytes) quoted e =
+    elim (decide (nat_eq byte 110)) [
+      | inl n ↦
+          one_piece 10 (92 ∷ []) (byte ∷ []) bytes quoted (inr (inr (inl (refl, two byte 110 (eqb-true _ _ n)))))
+          (λ q. string_sound Plain bytes q) (rw n at e)
+      | inr e110 ↦ elim (decide (nat_eq byte 116)) [
+        | inl t ↦
+            one_piece 9 (92 ∷ []) (byte ∷ []) bytes quoted (inr (inr (inr (inl (refl, two byte 116 (eqb-true _ _ t))))))
+            (λ q. string_sound Plain bytes q) (rw (e110, t) at e)
+        | inr e116 ↦ elim (decide (nat_eq byte 92)) [
+          | inl slash ↦
+              one_piece 92 (92 ∷ []) (byte ∷ []) bytes quoted (inr (inr (inr (inr (inr (refl, two byte 92 (eqb-true _ _ slash)))))))
+              (λ q. string_sound Plain bytes q) (rw (e110, e116, slash) at e)
+          | inr e92 ↦ elim (decide (nat_eq byte 34)) [
+            | inl mark ↦
+                one_piece 34 (92 ∷ []) (byte ∷ []) bytes quoted (inr (inr (inr (inr (inl (refl, two byte 34 (eqb-true _ _ mark)))))))
+                (λ q. string_sound Plain bytes q) (rw (e110, e116, e92, mark) at e)
+            | inr e34 ↦ elim (decide (nat_eq byte 120)) [
+              | inl x ↦
+                  code_piece byte bytes quoted (eqb-true _ _ x)
+                  (string_sound Code bytes quoted (rw (e110, e116, e92, e34, x) at e))
+              | inr e120 ↦ no_quoted quoted (rw (e110, e116, e92, e34, e120) at e)
+            ]
+          ]
+        ]
+      ]
+    ]
+string_sound Code (byte ∷ bytes) quoted e =
+    let p = and_then_some (λ high. string_from (Digit high) bytes) (hex_value byte) quoted e in
+    shift (92 ∷ 120 ∷ []) bytes byte quoted (string_sound (Digit p.0) bytes quoted p.2 byte p.1)
+string_sound (Digit high) (byte ∷ bytes) quoted e = λ digit is.
+    let p = and_then_some (λ low. cond (is_coded (16 * high + low)) (with_byte (16 * high + low) (string_from Plain bytes)) None) (hex_value byte) quoted e in
+    let first = hex_back digit high is in
+    let second = hex_back byte p.0 p.1 in
+    elim (decide (is_coded (16 * high + p.0))) [
+      | inl c ↦
+          one_piece (16 * high + p.0) (92 ∷ 120 ∷ digit ∷ []) (byte ∷ []) bytes quoted
+          (code_of high p.0 digit byte first.0 second.0 second.1 c) (λ q. string_sound Plain bytes q) (rw c at p.2)
+      | inr c ↦ no_quoted quoted (rw c at p.2)
+    ]
+
+-- ---- a string as a word
+
+abbrev no_line : Option (List ℕ)
+no_line = None
+
+none_line : (line : List ℕ) → no_line ≡ Some line → ⊥
+none_line line e = cc
+
+some_line : (a b : List ℕ) → Some a ≡ Some b → a ≡ b
+some_line a b e = cc
+
+line_of_text : (text line : List ℕ) → line_in text ≡ Some line → IsLine line × (utf8_of line ≡ text)
+unfolding line_in
+line_of_text text line e =
+    elim (decide (is_utf8 text)) [
+      | inl u ↦ elim (decide (list_any is_line_end text)) [
+        | inl end ↦ absurd (none_line line (rw (u, end) at e))
+        | inr none ↦
+            let utf8 = IsUtf8-from_is_utf8 text u in
+            let is : utf16_of text ≡ line = some_line (utf16_of text) line (rw (u, none) at e) in
+            rw (← is) (IsLine-utf16_of text utf8 none, utf8_of-utf16_of text utf8)
+      ]
+      | inr u ↦ absurd (none_line line (rw u at e))
+    ]
+
+string_at_mark : (s : List ℕ) (q : Quoted) → string_at s ≡ Some q
+    → (bytes : List ℕ) × (s ≡ 34 ∷ bytes) × (string_from Plain bytes ≡ Some q)
+unfolding string_at
+string_at_mark [] q e = absurd cc
+string_at_mark (byte ∷ bytes) q e =
+    elim (decide (nat_eq byte 34)) [
+      | inl mark ↦ (bytes, ap (λ (b : ℕ). b ∷ bytes) (eqb-true _ _ mark), rw mark at e)
+      | inr other ↦ no_quoted q (rw other at e)
+    ]
+
+abbrev failed : ℕ → Reading (List ℕ)
+failed n = Err n
+
+wrong : (left : ℕ) (found : List ℕ × List ℕ) → failed left ≡ Ok found → ⊥
+wrong left found e = cc
+
+same_left : (m n : ℕ) → failed m ≡ failed n → n ≡ m
+same_left m n e = cc
+
+held_some : (o : Option (List ℕ)) (after s line rest : List ℕ) → held o after s ≡ Ok (line, rest)
+    → (o ≡ Some line) × (after ≡ rest) × (ends_here after ≡ true)
+held_some None after s line rest e = absurd cc
+held_some (Some x) after s line rest e =
+    elim (decide (ends_here after)) [
+      | inl ends ↦
+          let p : (x, after) ≡ (line, rest) = done_same {A = List ℕ × List ℕ} (x, after) (line, rest) (rw ends at e) in
+          (ap (λ (q : List ℕ × List ℕ). Some q.0) p, ap (λ (q : List ℕ × List ℕ). q.1) p, ends)
+      | inr other ↦ absurd (wrong (length s) (line, rest) (rw other at e))
+    ]
+
+quoted_some : (o : Option Quoted) (s line rest : List ℕ) → quoted o s ≡ Ok (line, rest)
+    → (q : Quoted) × (o ≡ Some q) × (held (line_in q.text) q.rest s ≡ Ok (line, rest))
+quoted_some None s line rest e = absurd cc
+quoted_some (Some q) s line rest e = (q, refl, e)
+
+held_none : (o : Option (List ℕ)) (after s : List ℕ) (left : ℕ) → held o after s ≡ Err left → left ≡ length s
+held_none None after s left e = cc
+held_none (Some x) after s left e =
+    elim (decide (ends_here after)) [
+      | inl ends ↦ absurd (wrong left (x, after) (sym (rw ends at e)))
+      | inr other ↦ same_left (length s) left (rw other at e)
+    ]
+
+quoted_none : (o : Option Quoted) (s : List ℕ) (left : ℕ) → quoted o s ≡ Err left → left ≡ length s
+quoted_none None s left e = cc
+quoted_none (Some q) s left e = held_none (line_in q.text) q.rest s left e
+
+quoted_takes : (s line rest : List ℕ) → quoted (string_at s) s ≡ Ok (line, rest)
+    → (w : List ℕ) × (s ≡ w ++ rest) × IsQuoted line w × (ends_here rest ≡ true)
+quoted_takes s line rest e =
+    let q = quoted_some (string_at s) s line rest e in
+    let h = held_some (line_in q.0.text) q.0.rest s line rest q.2 in
+    let m = string_at_mark s q.0 q.1 in
+    let w = string_sound Plain m.0 q.0 m.2 in
+    let l = line_of_text q.0.text line h.0 in
+    let parts : s ≡ (34 ∷ (w.inside ++ (34 ∷ []))) ++ rest =
+    m.1 ∙ ap (λ (xs : List ℕ). 34 ∷ xs) (w.parts ∙ rw h.1 (sym (append_assoc w.inside (34 ∷ []) rest))) in (
+      34 ∷ (w.inside ++ (34 ∷ [])),
+      parts,
+      record { whole = l.0; inside = w.inside; marks = refl; spelled = rw l.1 w.spelled },
+      subst (λ (xs : List ℕ). ends_here xs ≡ true) h.1 h.2,
+    )
+
+quoted_gives : (line w rest : List ℕ) → IsQuoted line w → ends_here rest ≡ true
+    → quoted (string_at (w ++ rest)) (w ++ rest) ≡ Ok (line, rest)
+unfolding string_at
+quoted_gives line w rest is ends =
+    let same : (is.inside ++ 34 ∷ []) ++ rest ≡ is.inside ++ 34 ∷ rest = append_assoc is.inside (34 ∷ []) rest in
+    let read = pieces_read (utf8_of line) is.inside rest is.spelled in
+    rw (is.marks, same, read, line_in-utf8_of line is.whole, ends) refl
+
+quoted_begins : (line w rest : List ℕ) → IsQuoted line w → starts_otherwise (w ++ rest) ≡ true
+quoted_begins line w rest is = rw is.marks refl
+
+pub quoted_front : Front IsQuoted (λ s. quoted (string_at s) s)
+quoted_front = record {
+  takes = λ s line rest e. quoted_takes s line rest e;
+  gives = λ line w rest is ends. quoted_gives line w rest is ends;
+  stops = λ s left e. quoted_none (string_at s) s left e;
+  begins = λ line w rest is. quoted_begins line w rest is;
+}

@@ -1,0 +1,212 @@
+-- A spelling is UTF-8, and its line says the command.
+use Rattle.std.proofs.Common.{◌≡◌, ℕ, ◌+◌, ◌/◌, ◌%◌, ◌^◌, ◌≤◌, ◌<◌, Bool, true, false, cond, nat_eq, nat_lt, List, [], ◌∷◌, ◌++◌, length, All, Ok, refl, sym, ap, ◌∙◌, subst, append-nil, arith, inl, inr, ◌⊎◌}
+use Rattle.std.specs.Prelude.{codes}
+use Rattle.std.specs.Fmt.{decimal}
+use Rattle.std.specs.List.{flat_map, list_all}
+use Rattle.std.specs.Str.{IsUtf8, IsAscii, is_utf8}
+use Rattle.std.specs.Char.Utf16.{utf16_lossy_chars}
+use Rattle.std.proofs.Math.Utf8.{scalar, scalars, encode, encodes}
+use Rattle.std.proofs.lemmas.Bool.{and_parts, cases_lt, lt-ltb, le-ltb, ltb-true}
+use Rattle.std.proofs.lemmas.Bool.Decides.{nat_tests}
+use Rattle.std.proofs.lemmas.Fmt.{IsAscii-decimal}
+use Rattle.std.proofs.lemmas.Grind.{flat_map-append}
+use Rattle.std.proofs.lemmas.List.Elements.{All-head, All-tail}
+use Rattle.std.proofs.lemmas.Str.{IsUtf8-nil, IsUtf8-append, IsUtf8-from_ascii, is_utf8-from_IsUtf8}
+use Rattle.std.proofs.lemmas.Str.Ascii.{IsAscii-nil, IsAscii-cons}
+use Rattle.kte_text.specs.Units.{IsLine, utf8_of}
+use Rattle.kte_text.specs.declared.primitive.Primitive.TheVariants.{Insert, Wrap, Unwrap, Remove}
+use Rattle.kte_text.proofs.CharLemmas.{Continues, IsMultibyte, encode_shape, scalars-line}
+use Rattle.kte_place.specs.declared.place.Place.{Place}
+use Rattle.kte_place.specs.declared.span.Expand.{Expand}
+use Rattle.kte_place.specs.declared.span.Empty.{Empty}
+use Rattle.kte_place.specs.declared.span.Empty.TheVariants.{Allow, Void}
+use Rattle.kte_place.specs.Ends.{Ends}
+use Rattle.kte_place.specs.Place.{IsInReach}
+use Rattle.kte_command.specs.declared.command.Command.{Command}
+use Rattle.kte_command.specs.declared.command.Command.TheVariants.{Put, MakeRange, SetRange, DropRange, ShowRange, Lock, Unlock, Land}
+use Rattle.kte_script.specs.declared.TheConstants.{MAX_DIGITS}
+use Rattle.kte_script.specs.Words.{skip}
+use Rattle.kte_script.specs.Strings.{hex_digit, spell_byte, spell_line}
+use Rattle.kte_script.specs.Fields.{Kind, Number, APlace, ASpan, OneLine, Quotation, Expands, Empties, Value, spell_field, spell_number, spell_place, expand_word, empty_word}
+use Rattle.kte_script.specs.Table.{Values, filled, spell_fields, spelling}
+use Rattle.kte_script.specs.Limits.{IsSpan, Fits, AllFit, InLimits}
+use Rattle.kte_script.specs.Script.{Says, is_skipped, meaning}
+use Rattle.kte_script.specs.Spelled.{is_itself}
+use Rattle.kte_script.proofs.AgainLemmas.{skip-word}
+use Rattle.kte_script.proofs.SpellingLemmas.{all_themselves}
+use Rattle.kte_script.proofs.LineLemmas.{says}
+use Rattle.kte_script.proofs.RoundLemmas.{command_again, listed}
+
+decide : (b : Bool) → (b ≡ true) ⊎ (b ≡ false)
+decide true = inl refl
+decide false = inr refl
+
+-- ASCII, by a test
+abbrev is_low : ℕ → Bool
+is_low byte = nat_lt byte 128
+
+all_low : (bytes : List ℕ) → list_all is_low bytes ≡ true → IsAscii bytes
+all_low [] h = IsAscii-nil
+all_low (byte ∷ bytes) h =
+    let p = and_parts (is_low byte) (list_all is_low bytes) h in
+    IsAscii-cons byte bytes (ltb-true _ _ p.0) (all_low bytes p.1)
+
+low_text : (bytes : List ℕ) → list_all is_low bytes ≡ true → IsUtf8 bytes
+low_text bytes h = IsUtf8-from_ascii bytes (all_low bytes h)
+
+-- ---- strings
+
+two : (a b : ℕ) → a < 128 → b < 128 → IsAscii (a ∷ b ∷ [])
+two a b p q = IsAscii-cons a (b ∷ []) p (IsAscii-cons b [] q IsAscii-nil)
+
+hex_small : (n : ℕ) → n < 16 → hex_digit n < 128
+hex_small n h = grind (arith, nat_tests)
+
+byte_ascii : (byte : ℕ) → byte < 128 → IsAscii (spell_byte byte)
+unfolding spell_byte
+byte_ascii byte small =
+    elim (decide (nat_eq byte 10)) [
+      | inl e ↦ rw e (two 92 110 (omega arith) (omega arith))
+      | inr e10 ↦ elim (decide (nat_eq byte 9)) [
+        | inl e ↦ rw (e10, e) (two 92 116 (omega arith) (omega arith))
+        | inr e9 ↦ elim (decide (nat_eq byte 34)) [
+          | inl e ↦ rw (e10, e9, e) (two 92 34 (omega arith) (omega arith))
+          | inr e34 ↦ elim (decide (nat_eq byte 92)) [
+            | inl e ↦ rw (e10, e9, e34, e) (two 92 92 (omega arith) (omega arith))
+            | inr e92 ↦ elim (cases_lt byte 32) [
+              | inl low ↦
+                  rw (e10, e9, e34, e92, lt-ltb _ _ low)
+                  (IsAscii-cons 92 (120 ∷ hex_digit (byte / 16) ∷ hex_digit (byte % 16) ∷ []) (omega arith)
+                  (IsAscii-cons 120 (hex_digit (byte / 16) ∷ hex_digit (byte % 16) ∷ []) (omega arith)
+                  (two (hex_digit (byte / 16)) (hex_digit (byte % 16)) (hex_small (byte / 16) (omega arith)) (hex_small (byte % 16) (omega arith)))))
+              | inr big ↦ rw (e10, e9, e34, e92, le-ltb _ _ big) (IsAscii-cons byte [] small IsAscii-nil)
+            ]
+          ]
+        ]
+      ]
+    ]
+
+high : (byte : ℕ) → 128 ≤ byte → is_itself byte ≡ true
+high byte h = grind (arith, nat_tests)
+
+continued : (bytes : List ℕ) → All Continues bytes → list_all is_itself bytes ≡ true
+continued [] h = refl
+continued (byte ∷ bytes) h =
+    rw (high byte (All-head Continues byte bytes h).0, continued bytes (All-tail Continues byte bytes h)) refl
+
+multibyte : (c : ℕ) (bytes : List ℕ) → IsMultibyte c bytes → list_all is_itself bytes ≡ true
+multibyte c bytes m =
+    let lead : 128 ≤ m.lead = elim (cases_lt c 0x1_0000) [
+      | inl low ↦ omega (arith, (m.low low).0)
+      | inr big ↦ omega (arith, m.high big)
+    ] in
+    rw (m.is, high m.lead lead, continued m.tail m.continue) refl
+
+encode_text : (c : ℕ) → scalar c ≡ true → IsUtf8 (encode c)
+encode_text c h = (c ∷ [], (rw h refl, append-nil (encode c)))
+
+char_text : (c : ℕ) → scalar c ≡ true → IsUtf8 (flat_map spell_byte (encode c))
+char_text c h =
+    elim (encode_shape c h) [
+      | inl p ↦ rw (p.1, append-nil (spell_byte c)) (IsUtf8-from_ascii (spell_byte c) (byte_ascii c p.0))
+      | inr m ↦ rw (all_themselves (encode c) (multibyte c (encode c) m)) (encode_text c h)
+    ]
+
+chars_text : (cs : List ℕ) → scalars cs ≡ true → IsUtf8 (flat_map spell_byte (encodes cs))
+chars_text [] h = IsUtf8-nil
+chars_text (c ∷ cs) h =
+    let p = and_parts (scalar c) (scalars cs) h in
+    rw (flat_map-append spell_byte (encode c) (encodes cs))
+    (IsUtf8-append (flat_map spell_byte (encode c)) (flat_map spell_byte (encodes cs)) (char_text c p.0) (chars_text cs p.1))
+
+marks : IsUtf8 (34 ∷ [])
+marks = IsUtf8-from_ascii (34 ∷ []) (IsAscii-cons 34 [] (omega arith) IsAscii-nil)
+
+front : IsUtf8 (32 ∷ 34 ∷ [])
+front = IsUtf8-from_ascii (32 ∷ 34 ∷ []) (two 32 34 (omega arith) (omega arith))
+
+line_text : (line : List ℕ) → IsLine line → IsUtf8 (spell_line line)
+unfolding spell_line
+line_text line whole =
+    let inside = flat_map spell_byte (utf8_of line) in
+    IsUtf8-append (32 ∷ 34 ∷ []) (inside ++ 34 ∷ []) front
+    (IsUtf8-append inside (34 ∷ []) (chars_text (utf16_lossy_chars line) (scalars-line line whole)) marks)
+
+-- ---- fields
+
+number_text : (n : ℕ) → n < 10 ^ MAX_DIGITS → IsUtf8 (spell_number n)
+number_text n small = IsUtf8-from_ascii (spell_number n) (IsAscii-cons 32 (decimal n) (omega arith) (IsAscii-decimal n (omega arith)))
+
+place_text : (place : Place) → IsInReach place → IsUtf8 (spell_place place)
+place_text place fits =
+    IsUtf8-append (spell_number place.line) (spell_number place.column)
+    (number_text place.line (omega (arith, fits.0))) (number_text place.column (omega (arith, fits.1)))
+
+span_text : (span : Ends) → IsSpan span → IsUtf8 (spell_place span.start ++ spell_place span.end)
+span_text span fits =
+    IsUtf8-append (spell_place span.start) (spell_place span.end)
+    (place_text span.start fits.reach.start) (place_text span.end fits.reach.end)
+
+expand_text : (left right : Bool) → IsUtf8 (32 ∷ expand_word left right)
+expand_text false false = low_text (codes " none") refl
+expand_text true false = low_text (codes " left") refl
+expand_text false true = low_text (codes " right") refl
+expand_text true true = low_text (codes " both") refl
+
+empty_text : (empty : Empty) → IsUtf8 (32 ∷ empty_word empty)
+empty_text Allow = low_text (codes " allow") refl
+empty_text Void = low_text (codes " void") refl
+
+field_text : (kind : Kind) (value : Value kind) → Fits kind value → IsUtf8 (spell_field kind value)
+field_text (Number most) n fits = number_text n fits.1
+field_text APlace place fits = place_text place fits
+field_text ASpan span fits = span_text span fits
+field_text OneLine span fits = span_text span fits.0
+field_text Quotation line fits = line_text line fits
+field_text Expands expand fits = expand_text expand.left expand.right
+field_text Empties empty fits = empty_text empty
+
+fields_text : (kinds : List Kind) (values : Values kinds) → AllFit kinds values → IsUtf8 (spell_fields kinds values)
+fields_text [] values fits = IsUtf8-nil
+fields_text (kind ∷ kinds) values fits =
+    IsUtf8-append (spell_field kind values.0) (spell_fields kinds values.1) (field_text kind values.0 fits.0) (fields_text kinds values.1 fits.1)
+
+-- ---- commands
+
+word_text : (command : Command) → IsUtf8 (filled command).row.word
+word_text (Put (Insert line column text)) = low_text (codes "insert") refl
+word_text (Put (Wrap line column)) = low_text (codes "wrap") refl
+word_text (Put (Unwrap line)) = low_text (codes "unwrap") refl
+word_text (Put (Remove line column length)) = low_text (codes "remove") refl
+word_text (MakeRange span expand empty) = low_text (codes "range") refl
+word_text (SetRange id span) = low_text (codes "setrange") refl
+word_text (DropRange id) = low_text (codes "droprange") refl
+word_text (ShowRange id) = low_text (codes "where") refl
+word_text Lock = low_text (codes "lock") refl
+word_text (Unlock revision) = low_text (codes "unlock") refl
+word_text (Land revision span expand empty) = low_text (codes "land") refl
+
+no_comment : (command : Command) (rest : List ℕ) → is_skipped ((filled command).row.word ++ rest) ≡ false
+no_comment (Put (Insert line column text)) rest = refl
+no_comment (Put (Wrap line column)) rest = refl
+no_comment (Put (Unwrap line)) rest = refl
+no_comment (Put (Remove line column length)) rest = refl
+no_comment (MakeRange span expand empty) rest = refl
+no_comment (SetRange id span) rest = refl
+no_comment (DropRange id) rest = refl
+no_comment (ShowRange id) rest = refl
+no_comment Lock rest = refl
+no_comment (Unlock revision) rest = refl
+no_comment (Land revision span expand empty) rest = refl
+
+pub spelling_text : (command : Command) → InLimits command → IsUtf8 (spelling command)
+spelling_text command fits =
+    let f = filled command in
+    IsUtf8-append f.row.word (spell_fields f.row.kinds f.values) (word_text command) (fields_text f.row.kinds f.values fits)
+
+pub line_again : (command : Command) → InLimits command → meaning (spelling command) ≡ Says command
+line_again command fits =
+    let f = filled command in
+    let fields = spell_fields f.row.kinds f.values in
+    let words : skip (spelling command) ≡ spelling command = skip-word f.row.word fields (listed command).is in
+    says (spelling command) command (spelling_text command fits) (ap is_skipped words ∙ no_comment command fields) (command_again command fits)

@@ -1,0 +1,16 @@
+use Rattle.std.proofs.Common.{◌∙◌, sym}
+use Rattle.kte_script.specs.Fields.{expand_of}
+use Rattle.kte_script.specs.Fields.{expand_at}
+use Rattle.kte_script.proofs.WordLemmas.{word_ok, word_bad}
+use Rattle.kte_script.proofs.words.Words.expand.Goals as goal
+
+pub returns-in_default : goal.returns-in_default
+unfolding expand_at
+returns-in_default c =
+    word_bad expand_of c.args.self.now.rest.now _ _ c.skip-bytes.ensures c.split_word.ensures.word (sym c.expand_of.ensures ∙ c.in_default.is)
+
+pub returns : goal.returns
+unfolding expand_at
+returns c =
+    word_ok expand_of c.args.self.now.rest.now _ _ _ c.in-Some.expand c.skip-bytes.ensures c.split_word.ensures.word
+    c.split_word.ensures.behind (sym c.expand_of.ensures ∙ c.in-Some.is)

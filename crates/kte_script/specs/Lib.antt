@@ -1,0 +1,11 @@
+pub mod Words
+pub mod Strings
+pub mod Quotation
+pub mod Fields
+pub mod Table
+pub mod Reading
+pub mod Limits
+pub mod Script
+pub mod Spelled
+pub mod InWords
+pub mod ScriptInWords

@@ -1,0 +1,170 @@
+use crate::{MAX_COMMANDS, Script, ScriptFault, read_script, spell};
+use kte_command::Command;
+use kte_text::{Line, Primitive};
+use std::alloc::Global;
+use std::test::Fail;
+
+/// Returns the spellings of a script's commands, each followed by LF; or its fault.
+fn spelled(alloc: Global, script: &[u8]) -> Result<String, Fail> {
+    let script = match read_script(alloc, script) {
+        Ok(script) => script,
+        Err(fault) => return Ok(format!(in alloc; "{fault}")?),
+    };
+    let mut out = Vec::new(alloc);
+    for n in 0..script.len() {
+        spell(script.get(n), &mut out)?;
+        out.push(b'\n')?;
+    }
+    Ok(String::from_utf8(out)?)
+}
+
+#[test]
+fn scripts_are_read(rt: HostRuntime) -> Result<(), Fail> {
+    let alloc = rt.alloc();
+    let table: [(&[u8], &str); 15] = [
+        (b"", ""),
+        (b"\n  \n\r\n# insert 0 0 \"a\n  #", ""),
+        (b"insert 0 5 \"!\"", "insert 0 5 \"!\"\n"),
+        (b"  insert   00 05  \"!\"  \r\n", "insert 0 5 \"!\"\n"),
+        (
+            b"wrap 1073741824 0000000009\nunwrap 1",
+            "wrap 1073741824 9\nunwrap 1\n",
+        ),
+        (b"remove 1 5 1 2", "remove 1 2 1 5\n"),
+        (b"range 2 0 1 3 left void", "range 1 3 2 0 left void\n"),
+        (b"range 0 0 0 0 none allow\n", "range 0 0 0 0 none allow\n"),
+        (b"range 0 0 0 1 both void\n", "range 0 0 0 1 both void\n"),
+        (
+            b"setrange 4294967295 3 1 2 1",
+            "setrange 4294967295 2 1 3 1\n",
+        ),
+        (b"droprange 7\nwhere 0", "droprange 7\nwhere 0\n"),
+        (
+            b"lock\nunlock 4294967295\nland 3 2 0 1 3 right allow",
+            "lock\nunlock 4294967295\nland 3 1 3 2 0 right allow\n",
+        ),
+        (
+            b"insert 0 0 \"\\t\\\\\\\"\\x00\\x1f\t\"",
+            "insert 0 0 \"\\t\\\\\\\"\\x00\\x1f\\t\"\n",
+        ),
+        (
+            b"insert 0 0 \"\xC3\xA9 \xF0\x9F\x98\x80#\x7F\"",
+            "insert 0 0 \"\u{E9} \u{1F600}#\u{7F}\"\n",
+        ),
+        (b"insert 0 0 \"\\x0a\"", "line 1 column 12"),
+    ];
+    for (script, want) in table {
+        let text = spelled(alloc, script)?;
+        assert_eq!(rt; text.as_str(), want);
+    }
+    Ok(())
+}
+
+#[test]
+fn the_first_fault_is_named(rt: HostRuntime) -> Result<(), Fail> {
+    let alloc = rt.alloc();
+    let table: [(&[u8], u64, u64); 47] = [
+        (b"lock 0", 1, 6),
+        (b"unlock 4294967296", 1, 8),
+        (b"land 0 0 0 0 1 none", 1, 20),
+        (b"insert 0 x \"a\"", 1, 10),
+        (b"insert 0 0 \"a", 1, 12),
+        (b"insert 0", 1, 9),
+        (b"insert 0 00000000000 \"a\"", 1, 10),
+        (b"insert", 1, 7),
+        (b"insert  ", 1, 9),
+        (b"insert 1073741825 0 \"a\"", 1, 8),
+        (b"insert 0 -1 \"a\"", 1, 10),
+        (b"insert 0 0", 1, 11),
+        (b"insert 0 0 a", 1, 12),
+        (b"insert 0 0 \"a\"b", 1, 12),
+        (b"insert 0 0 \"a\\q\"", 1, 12),
+        (b"insert 0 0 \"a\\\"", 1, 12),
+        (b"insert 0 0 \"\\n\"", 1, 12),
+        (b"insert 0 0 \"\\x0d\"", 1, 12),
+        (b"insert 0 0 \"\\x1F\"", 1, 12),
+        (b"insert 0 0 \"\\x20\"", 1, 12),
+        (b"insert 0 0 \"\x1F\"", 1, 12),
+        (b"insert 0 0 \"a\" b", 1, 16),
+        (b"Insert 0 0 \"a\"", 1, 1),
+        (b"  begin", 1, 3),
+        (b"wrap x 0", 1, 6),
+        (b"wrap 0  ", 1, 9),
+        (b"wrap 0  \r\n", 1, 9),
+        (b"wrap 0 0 0", 1, 10),
+        (b"wrap\t0 0", 1, 1),
+        (b"wrap 0 0\r", 1, 8),
+        (b"wrap 0 0\r\r\n", 1, 8),
+        (b"unwrap 12345678901", 1, 8),
+        (b"remove 0 0 1 0", 1, 12),
+        (b"remove 0 0 x 0", 1, 12),
+        (b"remove 0 0 1073741825 0", 1, 12),
+        (b"remove 0 0 0 y", 1, 14),
+        (b"range 0 0 0 0 None void", 1, 15),
+        (b"range 0 0 0 0 none", 1, 19),
+        (b"range 0 0 0 0 none empty", 1, 20),
+        (b"setrange 4294967296 0 0 0 0", 1, 10),
+        (b"setrange 1 0 0 0", 1, 17),
+        (b"droprange", 1, 10),
+        (b"where 1 2", 1, 9),
+        (b"# \xC3", 1, 3),
+        (b"\xEF\xBB\xBFwrap 0 0", 1, 1),
+        (b"wrap 0 0\n\nbad \xFF\nbad", 3, 5),
+        (b"where 1\n#\nwhere\nwhere x\n", 3, 6),
+    ];
+    for (script, line, column) in table {
+        let fault = read_script(alloc, script).err();
+        assert_eq!(rt; fault, Some(ScriptFault::Bad { line, column }));
+    }
+    Ok(())
+}
+
+#[test]
+fn a_script_has_at_most_so_many_commands(rt: HostRuntime) -> Result<(), Fail> {
+    let alloc = rt.alloc();
+    let mut bytes = Vec::new(alloc);
+    bytes.extend_from_slice(b"# no command\n")?;
+    for _ in 0..MAX_COMMANDS {
+        bytes.extend_from_slice(b"where 1\n")?;
+    }
+    let count = read_script(alloc, &bytes).ok().map(|script| script.len());
+    assert_eq!(rt; count, Some(100_000));
+    bytes.extend_from_slice(b"#\nwhere 1\n")?;
+    let fault = read_script(alloc, &bytes).err();
+    assert_eq!(rt; fault, Some(ScriptFault::TooMany { line: 100_003 }));
+    bytes.extend_from_slice(b"where\n")?;
+    let fault = read_script(alloc, &bytes).err();
+    assert_eq!(rt; fault, Some(ScriptFault::TooMany { line: 100_003 }));
+    Ok(())
+}
+
+#[test]
+fn a_script_grows_by_its_commands(rt: HostRuntime) -> Result<(), Fail> {
+    let alloc = rt.alloc();
+    let text = Line::from_utf8(alloc, "\u{7}").ok().ok_or("no line")?;
+    let mut script = Script::new(alloc);
+    assert!(rt; script.is_empty());
+    script.push(Command::Put {
+        step: Primitive::Insert {
+            line: 0,
+            column: 10,
+            text,
+        },
+    })?;
+    script.push(Command::Put {
+        step: Primitive::Remove {
+            line: 1,
+            column: u64::MAX,
+            length: 1,
+        },
+    })?;
+    assert_eq!(rt; script.len(), 2);
+    let mut out = Vec::new(alloc);
+    spell(script.get(0), &mut out)?;
+    assert_eq!(rt; out.as_slice(), b"insert 0 10 \"\\x07\"".as_slice());
+    out.clear();
+    spell(script.get(1), &mut out)?;
+    let want = b"remove 1 18446744073709551615 1 18446744073709551616".as_slice();
+    assert_eq!(rt; out.as_slice(), want);
+    Ok(())
+}
