@@ -1,0 +1,5 @@
+pub mod Bytes
+pub mod Calls
+pub mod Standing
+pub mod Written
+mod Examples
