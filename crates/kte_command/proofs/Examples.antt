@@ -1,16 +1,8 @@
 -- Worked examples of the definitions.
 use Rattle.std.proofs.Common.{arith}
-use Rattle.kte_text.specs.declared.primitive.Primitive.TheVariants.{Remove}
 use Rattle.kte_place.specs.Examples.{span}
 use Rattle.kte_command.specs.Commands.{InRange}
-use Rattle.kte_command.specs.declared.command.Command.TheVariants.{Put, SetRange, ShowRange}
-
--- a removal may end at the last number of 64 bits, and not past it
-last : InRange (Put (Remove 0 18446744073709551614 1))
-last = omega arith
-
-past : ¬ (InRange (Put (Remove 0 18446744073709551615 1)))
-past within = omega (arith, within)
+use Rattle.kte_command.specs.declared.command.Command.TheVariants.{SetRange, ShowRange}
 
 -- a place is at most at line and column 2^30
 far : InRange (SetRange 1 (span 0 0 1073741824 1073741824))

@@ -1,18 +1,15 @@
--- Which commands may be carried out. This project's own rules
-use Rattle.kte_text.specs.Primitives.{HasEnd}
-use Rattle.kte_place.specs.Ends.{Ends}
-use Rattle.kte_place.specs.Place.{IsInReach}
+-- Which commands may be carried out. This project's own rules.
+use Rattle.kte_place.specs.Ends.{SpanIsInReach}
 use Rattle.kte_command.specs.declared.command.Command.{Command}
-use Rattle.kte_command.specs.declared.command.Command.TheVariants.{Put, MakeRange, SetRange, DropRange, ShowRange, Lock, Unlock, Land}
-
--- a span whose two places may be named
-pub record SpanIsInReach (span : Ends) : Type 0 where
-  pub start : IsInReach span.start
-  pub end : IsInReach span.end
+use Rattle.kte_command.specs.declared.command.Command.TheVariants.{Edit, Begin, End, Undo, Redo, MakeRange, SetRange, DropRange, ShowRange, Lock, Unlock, Land}
 
 -- the numbers of a command are in their ranges
 abbrev pub InRange : Command → Type 0
-InRange (Put step) = HasEnd step
+InRange (Edit change) = Unit {0}
+InRange Begin = Unit {0}
+InRange End = Unit {0}
+InRange Undo = Unit {0}
+InRange Redo = Unit {0}
 InRange (MakeRange span expand empty) = SpanIsInReach span
 InRange (SetRange id span) = SpanIsInReach span
 InRange (DropRange id) = Unit {0}

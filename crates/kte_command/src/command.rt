@@ -1,16 +1,24 @@
 ghost use Rattle.std.specs.Prelude.{◌≡◌, IfOk};
 
+use kte_edit::Change;
 use kte_place::{Empty, Expand, Span};
-use kte_text::Primitive;
 use std::alloc::{AllocError, Global};
 
 /// A command of a script. Lines and columns of its spans are at most 2^30.
 #[derive(Debug, Drop)]
 pub enum Command {
-    /// Makes one primitive, or none where it would insert or remove nothing.
-    Put {
-        step: Primitive,
+    /// Makes the primitives of a change, which are none where it would insert or remove nothing.
+    Edit {
+        change: Change,
     },
+    /// Opens a transaction, in the one that is open, if any.
+    Begin,
+    /// Closes the innermost transaction.
+    End,
+    /// Undoes the last group that may be undone.
+    Undo,
+    /// Redoes the last group that was undone.
+    Redo,
     /// Makes a range. It gets the next number, from 1.
     MakeRange {
         span: Span,
@@ -51,9 +59,13 @@ impl Command {
         ensures { IfOk result (λ command. command ≡ self.now) }
     {
         match self {
-            Command::Put { step } => Ok(Command::Put {
-                step: step.copy(alloc)?,
+            Command::Edit { change } => Ok(Command::Edit {
+                change: change.copy(alloc)?,
             }),
+            Command::Begin => Ok(Command::Begin),
+            Command::End => Ok(Command::End),
+            Command::Undo => Ok(Command::Undo),
+            Command::Redo => Ok(Command::Redo),
             Command::MakeRange {
                 span,
                 expand,

@@ -1,17 +1,16 @@
 use crate::Command;
+use kte_edit::Change;
 use kte_place::{Empty, Expand, Place, Span};
-use kte_text::{Line, Primitive};
+use kte_text::load;
 use std::test::Fail;
 
 #[test]
 fn commands_are_copied(rt: HostRuntime) -> Result<(), Fail> {
     let alloc = rt.alloc();
-    let text = Line::from_utf8(alloc, "a").ok().ok_or("no line")?;
-    let insert = Command::Put {
-        step: Primitive::Insert {
-            line: 3,
-            column: 5,
-            text,
+    let insert = Command::Edit {
+        change: Change::Insert {
+            at: Place { line: 3, column: 5 },
+            text: load(alloc, b"a")?.text,
         },
     };
     let shown = format!(in alloc; "{:?}", insert.copy(alloc)?)?;

@@ -1,130 +1,395 @@
--- What comes of an edit.
-use Rattle.std.proofs.Common.{◌≡◌, ℕ, ◌+◌, Bool, true, false, List, [], ◌∷◌, ◌++◌, length, Option, None, Some, refl, ap, sym, subst, ◌∙◌}
-use Rattle.std.specs.Option.{option_map}
-use Rattle.std.specs.FinMap.{get}
-use Rattle.std.proofs.lemmas.List.{append-nil}
-use Rattle.kte_text.specs.Primitives.{is_empty}
+-- What comes of a change, a transaction, an undo and a redo.
+use Rattle.std.proofs.Common.{◌≡◌, ℕ, ◌+◌, ◌<◌, ◌≤◌, ◌==◌, Bool, true, false, List, [], ◌∷◌, ◌++◌, length, take, Option, None, Some, refl, ap, sym, subst, ◌∙◌, inl, inr, arith}
+use Rattle.std.specs.Prelude.{◌↔◌, Result, Ok, Err, IfOk, IsOk, IsErr, IsOkAnd, nat_lt, nat_le, if◌then◌else◌}
+use Rattle.std.specs.declared.alloc.AllocError.{AllocError}
+use Rattle.std.proofs.lemmas.Result.{IfOk-from_err}
+use Rattle.std.proofs.lemmas.Bool.{cases_Bool, eq-eqb, eqb-true, eqb-false, ne_eqb, lt-ltb, le-ltb, ltb-true, ltb-false, leb-true, leb-false}
+use Rattle.std.proofs.lemmas.List.{take_all, length-take-le}
 use Rattle.kte_text.specs.declared.primitive.Primitive.{Primitive}
-use Rattle.kte_place.specs.declared.entry.Entry.{Entry}
-use Rattle.kte_doc.specs.Documents.{Document, CameBy}
-use Rattle.kte_doc.specs.Standings.{Standing, moved_over}
-use Rattle.kte_place.specs.Ends.{Ends}
-use Rattle.kte_place.specs.declared.span.Expand.{Expand}
-use Rattle.kte_place.specs.declared.span.Empty.{Empty}
-use Rattle.kte_history.specs.declared.lock.Owner.TheVariants.{Editor}
-use Rattle.kte_history.specs.Locks.{has_lock}
-use Rattle.kte_ranges.specs.declared.info.RangeKind.TheVariants.{User}
-use Rattle.kte_core.specs.React.{Editing, State, Range, Reaction, steps_of, refusal_of, text_of, revision_of, edit, edit_judged, edited, made_now, placed, react, react_command, set_range, drop_range, show_range, unlock, land, can_land_from}
-use Rattle.kte_core.specs.Shown.{range_of, IsOf, Meets, Replies}
-use Rattle.kte_core.specs.declared.event.Step.{Step}
-use Rattle.kte_core.specs.declared.reply.Reply.{Reply}
-use Rattle.kte_core.specs.declared.reply.Reply.TheVariants.{Edited, Refused}
-use Rattle.kte_core.specs.declared.reply.Refusal.{Refusal}
+use Rattle.kte_text.specs.declared.primitive.Misfit.{Misfit}
+use Rattle.kte_doc.specs.Documents.{Document}
+use Rattle.kte_history.specs.declared.fault.RevisionsFull as fault
+use Rattle.kte_edit.specs.Steps.{steps_of, change_misfit}
+use Rattle.kte_edit.specs.declared.change.Change.{Change}
+use Rattle.kte_edit.specs.declared.change.StepsFault.{StepsFault}
+use Rattle.kte_undo.specs.Steps.{steps_along, undo_of, redo_of}
+use Rattle.kte_undo.specs.Groups.{Edits, last_of, gone_back, gone_forth}
+use Rattle.kte_undo.specs.declared.step.Step.{Step as UndoStep}
+use Rattle.kte_undo.specs.declared.groups.UndoFault.{UndoFault}
 use Rattle.kte_command.specs.declared.command.Command.{Command}
-use Rattle.kte_command.specs.declared.command.Command.TheVariants.{Put, MakeRange, SetRange, DropRange, ShowRange, Lock, Unlock, Land}
+use Rattle.kte_command.specs.declared.command.Command.TheVariants as command
+use Rattle.kte_core.specs.Editing.{Editing, EditReaction, text_of, revision_of, judged, full, carried, noted_change, change_refusal, group_refusal, changed}
+use Rattle.kte_core.specs.React.{State, Reaction, react, react_by, react_cut, react_command, edited, cut_at, CutsBetween}
+use Rattle.kte_core.specs.Shown.{IsAfter, IsOf, IsRefused, Meets, Reacts}
+use Rattle.kte_core.specs.declared.event.Step.{Step}
+use Rattle.kte_core.specs.declared.reply.Reply.TheVariants as reply
+use Rattle.kte_core.specs.declared.reply.Refusal.{Refusal}
+use Rattle.kte_core.specs.declared.reply.Refusal.TheVariants as refusal
 use Rattle.kte_core.specs.declared.request.Request.{Request}
 use Rattle.kte_core.specs.declared.request.Request.TheVariants.{Cmd}
 
--- an edit in the state is judged as in its document
-judged_same : (state : State) (document : Document) (step : Primitive) → IsOf state document → refusal_of document.text document.revision document.limit step ≡ refusal_of (text_of state.editing) (revision_of state.editing) state.editing.limit step
-judged_same state document step is_of =
-    ap (λ (text : List (List ℕ)). refusal_of text document.revision document.limit step) is_of.came.text
-    ∙ ap (λ (revision : ℕ). refusal_of (text_of state.editing) revision document.limit step) is_of.came.revision
-    ∙ ap (λ (limit : ℕ). refusal_of (text_of state.editing) (revision_of state.editing) limit step) is_of.limit
+-- a step of a reply that does not say that memory ran out
+pub Reacts-whole : (before : State) (seat : ℕ) (request : Request) (step : Step) (after : State) → cut_at step.reply ≡ None
+    → step.reply ≡ (react before seat request).reply → step.made ≡ (react before seat request).made
+    → after ≡ (react before seat request).after → Reacts before seat request step after
+Reacts-whole before seat request step after whole reply made leads = record {
+  reply = subst (λ (o : Option ℕ). step.reply ≡ (react_by before seat request o).reply) (sym whole) reply;
+  made = subst (λ (o : Option ℕ). step.made ≡ (react_by before seat request o).made) (sym whole) made;
+  leads = subst (λ (o : Option ℕ). after ≡ (react_by before seat request o).after) (sym whole) leads;
+  cut = subst (λ (o : Option ℕ). CutsBetween (react before seat request).made o) (sym whole) tt;
+}
 
--- an edit whose steps are made
-Meets-made : (state : State) (document later : Document) (primitive : Primitive) (steps : List Primitive) (step : Step) → IsOf state document → refusal_of document.text document.revision document.limit primitive ≡ None → steps_of primitive ≡ steps → step.made ≡ steps → step.reply ≡ Edited (length step.made) later.revision 0 → CameBy state.editing.loaded.text (state.editing.trail ++ steps) later → later.limit ≡ document.limit → ((id : ℕ) → option_map range_of (get later.ranges id) ≡ option_map range_of (get document.ranges id)) → later.next ≡ document.next → later.locks ≡ document.locks → Meets (edited state (edit state.editing primitive)) step later
-Meets-made state document later primitive steps step is_of fits all made reply came limit ranges next_id locks =
-    let judged : None ≡ refusal_of (text_of state.editing) (revision_of state.editing) state.editing.limit primitive =
-    sym fits ∙ judged_same state document primitive is_of in
-    subst (λ (judged : Option Refusal). Meets (edited state (edit_judged judged state.editing (steps_of primitive))) step later) judged
-    (rw all (record {
-      reply = reply ∙ ap (λ (made : List Primitive). Edited (length made) later.revision 0) made ∙ ap (λ (revision : ℕ). Edited (length steps) revision 0) came.revision;
-      made = made;
-      leads = record {
-        came = came;
-        limit = limit ∙ is_of.limit;
-        ranges = λ id. ranges id ∙ is_of.ranges id;
-        next_id = next_id ∙ is_of.next_id;
-        locks = locks ∙ is_of.locks;
-      };
-    }))
+-- .. and of one that does
+pub Reacts-part : (before : State) (seat : ℕ) (request : Request) (step : Step) (after : State) (n : ℕ) → cut_at step.reply ≡ Some n
+    → step.reply ≡ (react_cut before seat request n).reply → step.made ≡ (react_cut before seat request n).made
+    → after ≡ (react_cut before seat request n).after → 0 < n → n < length (react before seat request).made
+    → Reacts before seat request step after
+Reacts-part before seat request step after n part reply made leads some within = record {
+  reply = subst (λ (o : Option ℕ). step.reply ≡ (react_by before seat request o).reply) (sym part) reply;
+  made = subst (λ (o : Option ℕ). step.made ≡ (react_by before seat request o).made) (sym part) made;
+  leads = subst (λ (o : Option ℕ). after ≡ (react_by before seat request o).after) (sym part) leads;
+  cut = subst (λ (o : Option ℕ). CutsBetween (react before seat request).made o) (sym part) (some, within);
+}
 
--- an edit that inserts or removes nothing leaves the document as it is
-pub Meets-nothing : (state : State) (document later : Document) (primitive : Primitive) (step : Step) → IsOf state document → refusal_of document.text document.revision document.limit primitive ≡ None → is_empty primitive ≡ true → step.made ≡ [] → step.reply ≡ Edited (length step.made) later.revision 0 → later ≡ document → Meets (edited state (edit state.editing primitive)) step later
-Meets-nothing state document later primitive step is_of fits nothing made reply same =
-    Meets-made state document later primitive [] step is_of fits (rw nothing refl) made reply
-    (rw (append-nil, same) is_of.came) (ap (λ (d : Document). d.limit) same) (λ id. ap (λ (d : Document). option_map range_of (get d.ranges id)) same) (ap (λ (d : Document). d.next) same) (ap (λ (d : Document). d.locks) same)
+-- a step that refuses a request that is to be refused
+pub Meets-refused : (state : State) (command : Command) (document : Document) (edits : Edits) (cause : Refusal) (step : Step)
+    (judgement : Option Refusal) (reaction : EditReaction) → IsOf state document → edits ≡ state.editing.edits
+    → IsRefused cause step → judgement ≡ Some cause
+    → react_command state command ≡ edited state (judged judgement state.editing reaction)
+    → Meets state 0 (Cmd command) step document edits
+Meets-refused state command document edits cause step judgement reaction is_of same refuses because is =
+    let it : react_command state command ≡ edited state (judged (Some cause) state.editing reaction) =
+    is ∙ ap (λ (j : Option Refusal). edited state (judged j state.editing reaction)) because in
+    record {
+      after = state;
+      reacts = Reacts-whole state 0 (Cmd command) step state (ap cut_at refuses.reply)
+          (refuses.reply ∙ sym (ap (λ (r : Reaction). r.reply) it)) (refuses.made ∙ sym (ap (λ (r : Reaction). r.made) it))
+          (sym (ap (λ (r : Reaction). r.after) it));
+      document = is_of;
+      edits = same;
+    }
 
--- where ranges are moved over an entry, each is what it was
-same_moved : (entry : Entry) (standing : Option Standing) → option_map range_of (option_map (moved_over entry) standing) ≡ option_map range_of standing
-same_moved entry None = refl
-same_moved entry (Some standing) = refl
+-- the state after these primitives
+abbrev made_in : State → List Primitive → Edits → State
+made_in state primitives edits = record state { editing = record state.editing { trail = state.editing.trail ++ primitives; edits = edits } }
 
--- an edit that makes one primitive
-pub Meets-one : (state : State) (document later : Document) (primitive : Primitive) (entry : Entry) (step : Step) → IsOf state document → refusal_of document.text document.revision document.limit primitive ≡ None → is_empty primitive ≡ false → step.made ≡ primitive ∷ [] → step.reply ≡ Edited (length step.made) later.revision 0 → ((loaded : List (List ℕ)) (trail : List Primitive) → CameBy loaded trail document → CameBy loaded (trail ++ primitive ∷ []) later) → later.limit ≡ document.limit → ((id : ℕ) → get later.ranges id ≡ option_map (moved_over entry) (get document.ranges id)) → later.next ≡ document.next → later.locks ≡ document.locks → Meets (edited state (edit state.editing primitive)) step later
-Meets-one state document later primitive entry step is_of fits some made reply came limit ranges next_id locks =
-    Meets-made state document later primitive (primitive ∷ []) step is_of fits (rw some refl) made reply
-    (came state.editing.loaded.text state.editing.trail is_of.came) limit
-    (λ id. ap (option_map range_of) (ranges id) ∙ same_moved entry (get document.ranges id)) next_id locks
+IsOf-made : (state : State) (primitives : List Primitive) (edits : Edits) (document later : Document) → IsOf state document
+    → IsAfter primitives document later → IsOf (made_in state primitives edits) later
+IsOf-made state primitives edits document later is_of after = record {
+  came = after.came state.editing.loaded.text state.editing.trail is_of.came;
+  limit = after.limit ∙ is_of.limit;
+  ranges = λ id. after.ranges id ∙ is_of.ranges id;
+  next_id = after.next_id ∙ is_of.next_id;
+  locks = after.locks ∙ is_of.locks;
+}
 
--- a step of a reply for which no primitive was made
-pub Meets-reply : (state : State) (request : Request) (command : Command) (reply : Reply) (step : Step) (later : Document) → request ≡ Cmd command → Replies (react_command state command) reply later → step.reply ≡ reply → step.made ≡ [] → Meets (react state 0 request) step later
-Meets-reply state request command reply step later is replies told made = rw is (record {
-  reply = told ∙ replies.reply;
-  made = made ∙ sym replies.made;
-  leads = replies.leads;
-})
+-- What a command calls for in a state where it is not refused: it makes these primitives, or the first
+-- ones, and leads to the groups that follow from them
+pub record Calls (state : State) (command : Command) (all : List Primitive) (groups : List Primitive → Edits) : Type 0 where
+  pub whole : react state 0 (Cmd command) ≡ edited state (carried reply.Edited state.editing all (groups all))
+  pub part : (n : ℕ) → react_cut state 0 (Cmd command) n
+      ≡ edited state (carried reply.Cut state.editing (take n all) (groups (take n all)))
 
--- an edit is refused exactly for its refusal
-refused-judged : (judged : Option Refusal) (editing : Editing) (steps : List Primitive) (refusal : Refusal) → (edit_judged judged editing steps).reply ≡ Refused refusal → judged ≡ Some refusal
-refused-judged None editing steps refusal refused = cc
-refused-judged (Some cause) editing steps refusal refused = cc
+-- a step whose first primitives were made, as it tells
+pub record Tells (all : List Primitive) (n : ℕ) (later : Document) (edits : Edits) (step : Step) : Type 0 where
+  pub count : n ≤ length all
+  pub made : step.made ≡ take n all
+  pub whole : n ≡ length all → step.reply ≡ reply.Edited n later.revision edits.depth
+  pub part : 0 < n → n < length all → step.reply ≡ reply.Cut n later.revision edits.depth
+  pub some : n < length all → 0 < n
 
-pub refused-edit : (state : State) (document : Document) (primitive : Primitive) (refusal : Refusal) → IsOf state document → (edit state.editing primitive).reply ≡ Refused refusal → refusal_of document.text document.revision document.limit primitive ≡ Some refusal
-refused-edit state document primitive refusal is_of refused =
-    judged_same state document primitive is_of ∙ refused-judged _ state.editing (steps_of primitive) refusal refused
+Meets-whole : (state : State) (command : Command) (all : List Primitive) (groups : List Primitive → Edits) (n : ℕ)
+    (document later : Document) (edits : Edits) (step : Step) → IsOf state document → IsAfter all document later
+    → edits ≡ groups all → n ≡ length all → step.made ≡ all → step.reply ≡ reply.Edited n later.revision edits.depth
+    → react state 0 (Cmd command) ≡ edited state (carried reply.Edited state.editing all (groups all))
+    → Meets state 0 (Cmd command) step later edits
+Meets-whole state command all groups n document later edits step is_of after same long made told is =
+    let shown = IsOf-made state all (groups all) document later is_of after in
+    let revision = shown.came.revision in
+    let replied : step.reply ≡ reply.Edited (length all) (length (state.editing.trail ++ all)) (groups all).depth =
+    told ∙ ap (λ (k : ℕ). reply.Edited k later.revision edits.depth) long
+    ∙ ap (λ (k : ℕ). reply.Edited (length all) k edits.depth) revision
+    ∙ ap (λ (e : Edits). reply.Edited (length all) (length (state.editing.trail ++ all)) e.depth) same in
+    record {
+      after = made_in state all (groups all);
+      reacts = Reacts-whole state 0 (Cmd command) step (made_in state all (groups all)) (ap cut_at replied)
+          (replied ∙ sym (ap (λ (r : Reaction). r.reply) is)) (made ∙ sym (ap (λ (r : Reaction). r.made) is))
+          (sym (ap (λ (r : Reaction). r.after) is));
+      document = shown;
+      edits = same;
+    }
 
--- the counts of an edit that was made
-counts-judged : (judged : Option Refusal) (editing : Editing) (made : List Primitive) (steps revision depth : ℕ) → (edit_judged judged editing made).reply ≡ Edited steps revision depth → (revision ≡ revision_of (edit_judged judged editing made).after) × (steps ≡ length (edit_judged judged editing made).made)
-counts-judged None editing made steps revision depth is = (cc, cc)
-counts-judged (Some cause) editing made steps revision depth is = (cc, cc)
+Meets-part : (state : State) (command : Command) (all : List Primitive) (groups : List Primitive → Edits) (n : ℕ)
+    (document later : Document) (edits : Edits) (step : Step) → IsOf state document → IsAfter (take n all) document later
+    → edits ≡ groups (take n all) → 0 < n → n < length all → step.made ≡ take n all
+    → step.reply ≡ reply.Cut n later.revision edits.depth → Calls state command all groups
+    → Meets state 0 (Cmd command) step later edits
+Meets-part state command all groups n document later edits step is_of after same some within made told calls =
+    let ps = take n all in
+    let shown = IsOf-made state ps (groups ps) document later is_of after in
+    let revision = shown.came.revision in
+    let long : n ≡ length ps = sym (length-take-le n all (omega arith)) in
+    let is = calls.part n in
+    let replied : step.reply ≡ reply.Cut (length ps) (length (state.editing.trail ++ ps)) (groups ps).depth =
+    told ∙ ap (λ (k : ℕ). reply.Cut k later.revision edits.depth) long
+    ∙ ap (λ (k : ℕ). reply.Cut (length ps) k edits.depth) revision
+    ∙ ap (λ (e : Edits). reply.Cut (length ps) (length (state.editing.trail ++ ps)) e.depth) same in
+    let number : cut_at step.reply ≡ Some n = ap cut_at told in
+    let many : n < length (react state 0 (Cmd command)).made = rw calls.whole within in
+    record {
+      after = made_in state ps (groups ps);
+      reacts = Reacts-part state 0 (Cmd command) step (made_in state ps (groups ps)) n number
+          (replied ∙ sym (ap (λ (r : Reaction). r.reply) is)) (made ∙ sym (ap (λ (r : Reaction). r.made) is))
+          (sym (ap (λ (r : Reaction). r.after) is)) some many;
+      document = shown;
+      edits = same;
+    }
 
--- the reply and what is after a reaction agree on the counts of an edit
-abbrev Counts : Reaction → Type 0
-Counts reaction = (steps revision depth : ℕ) → reaction.reply ≡ Edited steps revision depth → (revision ≡ revision_of reaction.after.editing) × (steps ≡ length reaction.made)
+-- a step that tells what was made meets the reaction, or its cut form
+pub Meets-told : (state : State) (command : Command) (all : List Primitive) (groups : List Primitive → Edits) (n : ℕ)
+    (document later : Document) (edits : Edits) (step : Step) → IsOf state document → IsAfter (take n all) document later
+    → edits ≡ groups (take n all) → Tells all n later edits step → Calls state command all groups
+    → Meets state 0 (Cmd command) step later edits
+Meets-told state command all groups n document later edits step is_of after same tells calls =
+    elim (cases_Bool (nat_lt n (length all))) [
+      | inl t ↦ let within = ltb-true n (length all) t in
+          Meets-part state command all groups n document later edits step is_of after same (tells.some within) within tells.made
+          (tells.part (tells.some within) within) calls
+      | inr f ↦ let long : n ≡ length all = omega (arith, ltb-false n (length all) f, tells.count) in
+          let e : take n all ≡ all = take_all n all (omega arith) in
+          Meets-whole state command all groups n document later edits step is_of
+          (subst (λ (ps : List Primitive). IsAfter ps document later) e after) (same ∙ ap groups e) long (tells.made ∙ e)
+          (tells.whole long) calls.whole
+    ]
 
-counts-placed : (state : State) (id : ℕ) (range : Range) → Counts (placed state id range)
-counts-placed state id range steps revision depth is = (cc, cc)
+-- what is told where memory did not run out before the first primitive
+pub told_of_all : (result : Result Step AllocError) (all : List Primitive) (n : ℕ) (later : Document) (edits : Edits) → n ≤ length all
+    → IfOk result (λ step. step.made ≡ take n all)
+    → (n ≡ length all → IsOkAnd result (λ step. step.reply ≡ reply.Edited n later.revision edits.depth))
+    → (0 < n → n < length all → IsOkAnd result (λ step. step.reply ≡ reply.Cut n later.revision edits.depth))
+    → IfOk result (λ step. n < length all → 0 < n)
+    → IfOk result (Tells all n later edits)
+told_of_all (Ok step) all n later edits count made whole part some =
+    record { count = count; made = made; whole = whole; part = part; some = some }
+told_of_all (Err e) all n later edits count made whole part some = tt
 
-counts-set : (state : State) (id : ℕ) (span : Ends) (found : Option Range) → Counts (set_range state id span found)
-counts-set state id span None steps revision depth is = (cc, cc)
-counts-set state id span (Some range) steps revision depth is = (cc, cc)
+pub if_ok : (result : Result Step AllocError) (P Q : Step → Type 0) → ((step : Step) → P step → Q step) → IfOk result P → IfOk result Q
+if_ok (Ok step) P Q f h = f step h
+if_ok (Err e) P Q f h = tt
 
-counts-drop : (state : State) (id : ℕ) (found : Option Range) → Counts (drop_range state id found)
-counts-drop state id None steps revision depth is = (cc, cc)
-counts-drop state id (Some range) steps revision depth is = (cc, cc)
+-- a test for room that says that there is some, and one that says that there is not
+room_is : (enough : Bool) (result : Result (Unit {0}) fault.RevisionsFull) (given : Unit {0}) (error : fault.RevisionsFull)
+    → result ≡ (if enough then Ok tt else Err error) → result ≡ Ok given → enough ≡ true
+room_is true result given error told is = refl
+room_is false result given error told is = absurd (cc)
 
-counts-show : (state : State) (id : ℕ) (found : Option Range) → Counts (show_range state id found)
-counts-show state id None steps revision depth is = (cc, cc)
-counts-show state id (Some range) steps revision depth is = (cc, cc)
+room_failed : (enough : Bool) (result : Result (Unit {0}) fault.RevisionsFull) (given error : fault.RevisionsFull)
+    → result ≡ (if enough then Ok tt else Err error) → result ≡ Err given → (enough ≡ false) × (given ≡ error)
+room_failed true result given error told is = absurd (cc)
+room_failed false result given error told is = (refl, cc)
 
-counts-unlock : (state : State) (revision : ℕ) (owned : Bool) → Counts (unlock state revision owned)
-counts-unlock state revision true steps later depth is = (cc, cc)
-counts-unlock state revision false steps later depth is = (cc, cc)
+-- a document that has no room for these primitives says at which revision it is
+pub room_refuses : (document : Document) (ps : List Primitive) (n : ℕ) (result : Result (Unit {0}) fault.RevisionsFull)
+    (given : fault.RevisionsFull) → n ≡ length ps
+    → result ≡ (if nat_le (document.revision + n) document.limit then Ok tt else Err (record { revision = document.revision }))
+    → result ≡ Err given
+    → (nat_le (document.revision + length ps) document.limit ≡ false) × (given.revision ≡ document.revision)
+room_refuses document ps n result given long told is =
+    let both = room_failed (nat_le (document.revision + n) document.limit) result given (record { revision = document.revision }) told is in
+    (ap (λ (k : ℕ). nat_le (document.revision + k) document.limit) (sym long) ∙ both.0, ap (λ (f : fault.RevisionsFull). f.revision) both.1)
 
-counts-land : (state : State) (revision : ℕ) (span : Ends) (expand : Expand) (empty : Empty) (may : Bool) → Counts (land state revision span expand empty may)
-counts-land state revision span expand empty true steps later depth is = (cc, cc)
-counts-land state revision span expand empty false steps later depth is = (cc, cc)
+pub room_allows : (document : Document) (ps : List Primitive) (n : ℕ) (result : Result (Unit {0}) fault.RevisionsFull)
+    (given : Unit {0}) → n ≡ length ps
+    → result ≡ (if nat_le (document.revision + n) document.limit then Ok tt else Err (record { revision = document.revision }))
+    → result ≡ Ok given → nat_le (document.revision + length ps) document.limit ≡ true
+room_allows document ps n result given long told is =
+    ap (λ (k : ℕ). nat_le (document.revision + k) document.limit) (sym long)
+    ∙ room_is (nat_le (document.revision + n) document.limit) result given (record { revision = document.revision }) told is
 
--- only an edit is replied with counts
-pub counts : (state : State) (seat : ℕ) (request : Request) → Counts (react state seat request)
-counts state seat (Cmd (Put step)) =
-    counts-judged (refusal_of (text_of state.editing) (revision_of state.editing) state.editing.limit step) state.editing (steps_of step)
-counts state seat (Cmd (MakeRange span expand empty)) = counts-placed (record state { next_id = state.next_id + 1 }) state.next_id (made_now state.editing span expand empty User)
-counts state seat (Cmd (SetRange id span)) = counts-set state id span (get state.ranges id)
-counts state seat (Cmd (DropRange id)) = counts-drop state id (get state.ranges id)
-counts state seat (Cmd (ShowRange id)) = counts-show state id (get state.ranges id)
-counts state seat (Cmd Lock) = λ steps revision depth is. (cc, cc)
-counts state seat (Cmd (Unlock revision)) = counts-unlock state revision (has_lock state.locks Editor revision)
-counts state seat (Cmd (Land revision span expand empty)) = counts-land state revision span expand empty (can_land_from state revision)
+-- the state is full exactly where its document has no room
+full_is : (state : State) (document : Document) (ps : List Primitive) → IsOf state document
+    → nat_le (document.revision + length ps) document.limit ≡ false
+    → full state.editing ps ≡ Some (refusal.RevisionsFull document.revision)
+full_is state document ps is_of less =
+    let past : nat_lt state.editing.limit (revision_of state.editing + length ps) ≡ true =
+    lt-ltb state.editing.limit (revision_of state.editing + length ps)
+    (omega (arith, leb-false (document.revision + length ps) document.limit less, is_of.came.revision, is_of.limit)) in
+    rw past (ap (λ (r : ℕ). Some (refusal.RevisionsFull r)) (sym is_of.came.revision))
+
+full_not : (state : State) (document : Document) (ps : List Primitive) → IsOf state document
+    → nat_le (document.revision + length ps) document.limit ≡ true → full state.editing ps ≡ None
+full_not state document ps is_of enough =
+    let within : nat_lt state.editing.limit (revision_of state.editing + length ps) ≡ false =
+    le-ltb state.editing.limit (revision_of state.editing + length ps)
+    (omega (arith, leb-true (document.revision + length ps) document.limit enough, is_of.came.revision, is_of.limit)) in
+    rw within refl
+
+-- why a change is refused, judged in the document
+pub change_misfits : (state : State) (document : Document) (change : Change) (misfit : Misfit) → IsOf state document
+    → change_misfit change document.text ≡ Some misfit → change_refusal state.editing change ≡ Some (refusal.Misfit misfit)
+change_misfits state document change misfit is_of misfits =
+    let e : change_misfit change (text_of state.editing) ≡ Some misfit = ap (change_misfit change) (sym is_of.came.text) ∙ misfits in
+    rw e refl
+
+pub change_is_full : (state : State) (document : Document) (change : Change) (ps : List Primitive) → IsOf state document
+    → change_misfit change document.text ≡ None → ps ≡ steps_of change document.text
+    → nat_le (document.revision + length ps) document.limit ≡ false
+    → change_refusal state.editing change ≡ Some (refusal.RevisionsFull document.revision)
+change_is_full state document change ps is_of fits steps less =
+    let e : change_misfit change (text_of state.editing) ≡ None = ap (change_misfit change) (sym is_of.came.text) ∙ fits in
+    let all : steps_of change (text_of state.editing) ≡ ps = ap (steps_of change) (sym is_of.came.text) ∙ sym steps in
+    rw (e, all) (full_is state document ps is_of less)
+
+change_fits : (state : State) (document : Document) (change : Change) → IsOf state document
+    → change_misfit change document.text ≡ None
+    → nat_le (document.revision + length (steps_of change document.text)) document.limit ≡ true
+    → change_refusal state.editing change ≡ None
+change_fits state document change is_of fits enough =
+    let e : change_misfit change (text_of state.editing) ≡ None = ap (change_misfit change) (sym is_of.came.text) ∙ fits in
+    let all : steps_of change (text_of state.editing) ≡ steps_of change document.text = ap (steps_of change) (sym is_of.came.text) in
+    rw (e, all) (full_not state document (steps_of change document.text) is_of enough)
+
+-- a change that fits is made
+pub calls_change : (state : State) (document : Document) (edits : Edits) (change : Change) → IsOf state document
+    → edits ≡ state.editing.edits → change_misfit change document.text ≡ None
+    → nat_le (document.revision + length (steps_of change document.text)) document.limit ≡ true
+    → Calls state (command.Edit change) (steps_of change document.text) (λ ps. noted_change (steps_along ps document.text) edits)
+calls_change state document edits change is_of same fits enough =
+    let editing = state.editing in
+    let text = sym is_of.came.text in
+    let none = change_fits state document change is_of fits enough in
+    record {
+      whole = ap (λ (j : Option Refusal). edited state (judged j editing (changed reply.Edited editing (steps_of change (text_of editing))))) none
+          ∙ ap (λ (t : List (List ℕ)). edited state (carried reply.Edited editing (steps_of change t) (noted_change (steps_along (steps_of change t) t) editing.edits))) text
+          ∙ ap (λ (e : Edits). edited state (carried reply.Edited editing (steps_of change document.text) (noted_change (steps_along (steps_of change document.text) document.text) e))) (sym same);
+      part = λ n. ap (λ (t : List (List ℕ)). edited state (carried reply.Cut editing (take n (steps_of change t)) (noted_change (steps_along (take n (steps_of change t)) t) editing.edits))) text
+          ∙ ap (λ (e : Edits). edited state (carried reply.Cut editing (take n (steps_of change document.text)) (noted_change (steps_along (take n (steps_of change document.text)) document.text) e))) (sym same);
+    }
+
+-- why an undo or a redo is refused
+pub group_is_open : (editing : Editing) (groups : List (List UndoStep)) (ps : List Primitive) (depth : ℕ)
+    → depth ≡ editing.edits.depth → 0 < depth → group_refusal editing groups ps ≡ Some (refusal.StillOpen depth)
+group_is_open editing groups ps depth is some =
+    let f : (editing.edits.depth == 0) ≡ false = ne_eqb editing.edits.depth 0 (λ zero. omega arith) in
+    rw f (ap (λ (d : ℕ). Some (refusal.StillOpen d)) (sym is))
+
+pub group_is_none : (editing : Editing) (groups : List (List UndoStep)) (ps : List Primitive) → editing.edits.depth ≡ 0
+    → groups ≡ [] → group_refusal editing groups ps ≡ Some refusal.Nothing
+group_is_none editing groups ps shut none =
+    let t : (editing.edits.depth == 0) ≡ true = eq-eqb editing.edits.depth 0 shut in
+    rw (t, none) refl
+
+group_is : (editing : Editing) (groups : List (List UndoStep)) (ps : List Primitive) → editing.edits.depth ≡ 0
+    → 0 < length groups → group_refusal editing groups ps ≡ full editing ps
+group_is editing [] ps shut some = absurd (omega arith)
+group_is editing (group ∷ groups) ps shut some =
+    let t : (editing.edits.depth == 0) ≡ true = eq-eqb editing.edits.depth 0 shut in
+    rw t refl
+
+pub group_is_full : (state : State) (document : Document) (edits : Edits) (groups : List (List UndoStep)) (ps : List Primitive)
+    → IsOf state document → edits ≡ state.editing.edits → edits.depth ≡ 0 → 0 < length groups
+    → nat_le (document.revision + length ps) document.limit ≡ false
+    → group_refusal state.editing groups ps ≡ Some (refusal.RevisionsFull document.revision)
+group_is_full state document edits groups ps is_of same shut some less =
+    group_is state.editing groups ps (sym (ap (λ (e : Edits). e.depth) same) ∙ shut) some ∙ full_is state document ps is_of less
+
+group_fits : (state : State) (document : Document) (edits : Edits) (groups : List (List UndoStep)) (ps : List Primitive)
+    → IsOf state document → edits ≡ state.editing.edits → edits.depth ≡ 0 → 0 < length groups
+    → nat_le (document.revision + length ps) document.limit ≡ true → group_refusal state.editing groups ps ≡ None
+group_fits state document edits groups ps is_of same shut some enough =
+    group_is state.editing groups ps (sym (ap (λ (e : Edits). e.depth) same) ∙ shut) some ∙ full_not state document ps is_of enough
+
+-- a group is undone
+pub calls_undo : (state : State) (document : Document) (edits : Edits) → IsOf state document → edits ≡ state.editing.edits
+    → edits.depth ≡ 0 → 0 < length edits.undo
+    → nat_le (document.revision + length (undo_of (last_of edits.undo))) document.limit ≡ true
+    → Calls state command.Undo (undo_of (last_of edits.undo)) (λ ps. gone_back (length ps) edits)
+calls_undo state document edits is_of same shut some enough =
+    let editing = state.editing in
+    let undoing : Edits → Option Refusal → EditReaction = λ e j. judged j editing (carried reply.Edited editing (undo_of (last_of e.undo)) (gone_back (length (undo_of (last_of e.undo))) e)) in
+    let none : group_refusal editing edits.undo (undo_of (last_of edits.undo)) ≡ None =
+    group_fits state document edits edits.undo (undo_of (last_of edits.undo)) is_of same shut some enough in
+    record {
+      whole = ap (λ (e : Edits). edited state (undoing e (group_refusal editing e.undo (undo_of (last_of e.undo))))) (sym same)
+          ∙ ap (λ (j : Option Refusal). edited state (undoing edits j)) none;
+      part = λ n. ap (λ (e : Edits). edited state (carried reply.Cut editing (take n (undo_of (last_of e.undo))) (gone_back (length (take n (undo_of (last_of e.undo)))) e))) (sym same);
+    }
+
+-- a group is redone
+pub calls_redo : (state : State) (document : Document) (edits : Edits) → IsOf state document → edits ≡ state.editing.edits
+    → edits.depth ≡ 0 → 0 < length edits.redo
+    → nat_le (document.revision + length (redo_of (last_of edits.redo))) document.limit ≡ true
+    → Calls state command.Redo (redo_of (last_of edits.redo)) (λ ps. gone_forth (length ps) edits)
+calls_redo state document edits is_of same shut some enough =
+    let editing = state.editing in
+    let redoing : Edits → Option Refusal → EditReaction = λ e j. judged j editing (carried reply.Edited editing (redo_of (last_of e.redo)) (gone_forth (length (redo_of (last_of e.redo))) e)) in
+    let none : group_refusal editing edits.redo (redo_of (last_of edits.redo)) ≡ None =
+    group_fits state document edits edits.redo (redo_of (last_of edits.redo)) is_of same shut some enough in
+    record {
+      whole = ap (λ (e : Edits). edited state (redoing e (group_refusal editing e.redo (redo_of (last_of e.redo))))) (sym same)
+          ∙ ap (λ (j : Option Refusal). edited state (redoing edits j)) none;
+      part = λ n. ap (λ (e : Edits). edited state (carried reply.Cut editing (take n (redo_of (last_of e.redo))) (gone_forth (length (take n (redo_of (last_of e.redo)))) e))) (sym same);
+    }
+
+-- a change whose primitives are listed fits
+pub listed_fits : (misfit : Option Misfit) (result : Result (List Primitive) StepsFault) (made : List Primitive)
+    → ((m : Misfit) → (result ≡ Err (StepsFault.Misfit m)) ↔ (misfit ≡ Some m)) → result ≡ Ok made → misfit ≡ None
+listed_fits None result made told is = refl
+listed_fits (Some m) result made told is = let misfits = (told m).1 refl in absurd (cc)
+
+some_group : (groups : List (List UndoStep)) → (groups ≡ [] → ⊥) → 0 < length groups
+some_group [] none = absurd (none refl)
+some_group (group ∷ groups) none = omega arith
+
+-- there is a group, and no transaction is open, where neither is a cause
+pub may_go : (depth : ℕ) (groups : List (List UndoStep)) → (0 < depth → ⊥) → (depth ≡ 0 → groups ≡ [] → ⊥)
+    → (depth ≡ 0) × (0 < length groups)
+may_go depth groups inside none =
+    let shut : depth ≡ 0 = elim (cases_Bool (depth == 0)) [
+      | inl t ↦ eqb-true depth 0 t
+      | inr f ↦ let some : 0 < depth = omega (arith, eqb-false depth 0 f) in absurd (inside some)
+    ] in
+    (shut, some_group groups (none shut))
+
+-- a success of which something holds is one
+pub is_ok_from : (result : Result Step AllocError) (P : Step → Type 0) → IsOkAnd result P → IsOk result
+is_ok_from (Ok step) P h = refl
+is_ok_from (Err e) P h = absurd h
+
+if_ok_from : (result : Result Step AllocError) (P : Step → Type 0) → IsOkAnd result P → IfOk result P
+if_ok_from (Ok step) P h = h
+if_ok_from (Err e) P h = absurd h
+
+-- an undo or a redo that is refused for want of a group
+pub Meets-no_group : (command : Command) (groups : Edits → List (List UndoStep)) (steps : Editing → List Primitive)
+    (reaction : Editing → EditReaction)
+    → ((state : State) → react_command state command
+    ≡ edited state (judged (group_refusal state.editing (groups state.editing.edits) (steps state.editing)) state.editing (reaction state.editing)))
+    → (result : Result Step AllocError) (given : UndoFault) (document : Document) (edits now : Edits) → now ≡ edits
+    → ((depth : ℕ) → given ≡ UndoFault.StillOpen depth → (depth ≡ edits.depth) × (0 < depth))
+    → (given ≡ UndoFault.Nothing → (edits.depth ≡ 0) × (groups edits ≡ []))
+    → ((depth : ℕ) → given ≡ UndoFault.StillOpen depth → IsOkAnd result (IsRefused (refusal.StillOpen depth)))
+    → (given ≡ UndoFault.Nothing → IsOkAnd result (IsRefused refusal.Nothing))
+    → (given ≡ UndoFault.NoMemory → IsErr result)
+    → IfOk result (λ step. (state : State) → IsOf state document → edits ≡ state.editing.edits → Meets state 0 (Cmd command) step document now)
+Meets-no_group command groups steps reaction is result (UndoFault.StillOpen depth) document edits now kept opened none tells_open tells_none memory =
+    if_ok result (IsRefused (refusal.StillOpen depth)) _
+    (λ step refuses state is_of same.
+    let at = opened depth refl in
+    Meets-refused state command document now (refusal.StillOpen depth) step _ (reaction state.editing) is_of (kept ∙ same) refuses
+    (group_is_open state.editing (groups state.editing.edits) (steps state.editing) depth (at.0 ∙ ap (λ (e : Edits). e.depth) same) at.1) (is state))
+    (if_ok_from result _ (tells_open depth refl))
+Meets-no_group command groups steps reaction is result UndoFault.Nothing document edits now kept opened none tells_open tells_none memory =
+    if_ok result (IsRefused refusal.Nothing) _
+    (λ step refuses state is_of same.
+    let at = none refl in
+    Meets-refused state command document now refusal.Nothing step _ (reaction state.editing) is_of (kept ∙ same) refuses
+    (group_is_none state.editing (groups state.editing.edits) (steps state.editing) (sym (ap (λ (e : Edits). e.depth) same) ∙ at.0)
+    (sym (ap groups same) ∙ at.1)) (is state))
+    (if_ok_from result _ (tells_none refl))
+Meets-no_group command groups steps reaction is result UndoFault.NoMemory document edits now kept opened none tells_open tells_none memory =
+    IfOk-from_err result _ (memory refl)
+
+-- a cause is none or some
+pub none_some : (o : Option Misfit) (misfit : Misfit) → o ≡ None → o ≡ Some misfit → ⊥
+none_some o misfit none some = cc

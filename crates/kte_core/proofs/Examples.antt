@@ -1,24 +1,28 @@
 -- Worked examples of the definitions.
-use Rattle.std.proofs.Common.{◌≡◌, ℕ, true, false, List, [], ◌∷◌, Some, None, refl}
+use Rattle.std.proofs.Common.{◌≡◌, ℕ, false, List, [], ◌∷◌, Some, None, refl}
 use Rattle.std.specs.Prelude.{codes}
 use Rattle.std.specs.Ordering.{nat_cmp}
 use Rattle.std.specs.FinMap.{get-empty}
-use Rattle.kte_text.specs.declared.loading.Loaded.{Loaded}
 use Rattle.kte_text.specs.declared.loading.Eol.TheVariants.{Lf}
-use Rattle.kte_text.specs.declared.primitive.Primitive.{Primitive}
 use Rattle.kte_text.specs.declared.primitive.Primitive.TheVariants.{Insert, Wrap, Unwrap, Remove}
 use Rattle.kte_text.specs.declared.primitive.Misfit.TheVariants.{NoLine, NoColumn, FirstLine}
 use Rattle.kte_place.specs.Ends.{Ends}
+use Rattle.kte_place.specs.declared.place.Place.{Place}
 use Rattle.kte_place.specs.declared.span.Empty.{Empty}
 use Rattle.kte_place.specs.declared.span.Empty.TheVariants.{Allow, Void}
-use Rattle.kte_core.specs.React.{State, Editing, Reaction, react, text_of, revision_of, refused}
-use Rattle.kte_core.specs.Replay.{beginning, after_event, replay, IsLegal}
+use Rattle.kte_edit.specs.declared.change.Change.{Change}
+use Rattle.kte_undo.specs.Groups.{Edits}
+use Rattle.kte_undo.specs.declared.step.Step.TheVariants as Step
+use Rattle.kte_core.specs.Editing.{text_of}
+use Rattle.kte_core.specs.React.{State, Reaction, react, react_cut, refused}
+use Rattle.kte_core.specs.Replay.{beginning, transactions}
 use Rattle.kte_core.specs.declared.event.Event.{Event}
+use Rattle.kte_core.specs.declared.reply.Reply.{Reply}
 use Rattle.kte_core.specs.declared.reply.Reply.TheVariants as reply
-use Rattle.kte_core.specs.declared.reply.Refusal.TheVariants.{Misfit, RevisionsFull, NoRange, NotLocked, NotOwned}
+use Rattle.kte_core.specs.declared.reply.Refusal.TheVariants.{Misfit, NotOpen, StillOpen, Nothing, RevisionsFull, NoRange, NotLocked, NotOwned}
 use Rattle.kte_core.specs.declared.request.Request.{Request}
 use Rattle.kte_core.specs.declared.request.Request.TheVariants.{Cmd}
-use Rattle.kte_command.specs.declared.command.Command.TheVariants.{Put, MakeRange, SetRange, DropRange, ShowRange, Lock, Unlock, Land}
+use Rattle.kte_command.specs.declared.command.Command.TheVariants.{Edit, Begin, End, Undo, Redo, MakeRange, SetRange, DropRange, ShowRange, Lock, Unlock, Land}
 
 -- `hello` and an empty line, where two revisions can be made
 abbrev hello : State
@@ -28,15 +32,18 @@ hello = beginning (record { text = codes "hello" ∷ [] ∷ []; eol = Lf; bom = 
 abbrev asked : State → Request → Reaction
 asked state request = react state 0 request
 
-abbrev put : Primitive → Request
-put step = Cmd (Put step)
+abbrev put : Change → Request
+put change = Cmd (Edit change)
+
+abbrev place : ℕ → ℕ → Place
+place line column = record { line = line; column = column }
+
+abbrev span : ℕ → ℕ → ℕ → ℕ → Ends
+span line column line' column' = record { start = place line column; end = place line' column' }
 
 -- the state after two wraps of the first line, where no further revision can be made
 abbrev full : State
-full = (asked (asked hello (put (Wrap 0 0))).after (put (Wrap 0 0))).after
-
-abbrev span : ℕ → ℕ → ℕ → ℕ → Ends
-span line column line' column' = record { start = record { line = line; column = column }; end = record { line = line'; column = column' } }
+full = (asked (asked hello (put (Change.Wrap (place 0 0)))).after (put (Change.Wrap (place 0 0)))).after
 
 -- a range that does not expand
 abbrev range : Ends → Empty → Request
@@ -45,43 +52,43 @@ range span empty = Cmd (MakeRange span (record { left = false; right = false }) 
 abbrev mark : List ℕ
 mark = codes "!"
 
-inserted : (asked hello (put (Insert 0 5 mark))).reply ≡ reply.Edited 1 1 0
+inserted : (asked hello (put (Change.Insert (place 0 5) (mark ∷ [])))).reply ≡ reply.Edited 1 1 0
 inserted = refl
 
-inserted-made : (asked hello (put (Insert 0 5 mark))).made ≡ Insert 0 5 mark ∷ []
+inserted-made : (asked hello (put (Change.Insert (place 0 5) (mark ∷ [])))).made ≡ Insert 0 5 mark ∷ []
 inserted-made = refl
 
-inserted-text : text_of (asked hello (put (Insert 0 5 mark))).after.editing ≡ codes "hello!" ∷ [] ∷ []
+inserted-text : text_of (asked hello (put (Change.Insert (place 0 5) (mark ∷ [])))).after.editing ≡ codes "hello!" ∷ [] ∷ []
 inserted-text = refl
 
 -- what does not fit is refused, and changes nothing
-no_column : asked hello (put (Insert 0 6 mark)) ≡ refused hello (Misfit (NoColumn 0 6))
+no_column : asked hello (put (Change.Insert (place 0 6) (mark ∷ []))) ≡ refused hello (Misfit (NoColumn 0 6))
 no_column = refl
 
-no_line : asked hello (put (Insert 2 0 mark)) ≡ refused hello (Misfit (NoLine 2))
+no_line : asked hello (put (Change.Insert (place 2 0) (mark ∷ []))) ≡ refused hello (Misfit (NoLine 2))
 no_line = refl
 
-first_line : asked hello (put (Unwrap 0)) ≡ refused hello (Misfit FirstLine)
+first_line : asked hello (put (Change.Unwrap 0)) ≡ refused hello (Misfit FirstLine)
 first_line = refl
 
 -- an insertion or a removal of nothing is an edit of no steps, which is judged too
-nothing : (asked hello (put (Insert 0 5 []))).reply ≡ reply.Edited 0 0 0
+nothing : (asked hello (put (Change.Insert (place 0 5) ([] ∷ [])))).reply ≡ reply.Edited 0 0 0
 nothing = refl
 
-nothing-misplaced : asked hello (put (Remove 0 6 0)) ≡ refused hello (Misfit (NoColumn 0 6))
+nothing-misplaced : asked hello (put (Change.Remove (span 0 6 0 6))) ≡ refused hello (Misfit (NoColumn 0 6))
 nothing-misplaced = refl
 
 -- the last revision is made, and none after it but an edit of no steps
-last : (asked (asked hello (put (Wrap 0 0))).after (put (Wrap 0 0))).reply ≡ reply.Edited 1 2 0
+last : (asked (asked hello (put (Change.Wrap (place 0 0)))).after (put (Change.Wrap (place 0 0)))).reply ≡ reply.Edited 1 2 0
 last = refl
 
-too_many : asked full (put (Wrap 0 0)) ≡ refused full (RevisionsFull 2)
+too_many : asked full (put (Change.Wrap (place 0 0))) ≡ refused full (RevisionsFull 2)
 too_many = refl
 
-too_many-misplaced : asked full (put (Wrap 9 0)) ≡ refused full (Misfit (NoLine 9))
+too_many-misplaced : asked full (put (Change.Wrap (place 9 0))) ≡ refused full (Misfit (NoLine 9))
 too_many-misplaced = refl
 
-too_many-nothing : (asked full (put (Insert 0 0 []))).reply ≡ reply.Edited 0 2 0
+too_many-nothing : (asked full (put (Change.Insert (place 0 0) ([] ∷ [])))).reply ≡ reply.Edited 0 2 0
 too_many-nothing = refl
 
 -- ranges are numbered from 1; one past the text is invalid, and so is an empty one that may not be
@@ -119,7 +126,7 @@ unlock : (asked locked_twice (Cmd (Unlock 0))).reply ≡ reply.Unlocked 0
 unlock = refl
 
 abbrev later : State
-later = (asked (asked locked_twice (Cmd (Unlock 0))).after (put (Insert 0 0 (codes "x")))).after
+later = (asked (asked locked_twice (Cmd (Unlock 0))).after (put (Change.Insert (place 0 0) (codes "x" ∷ [])))).after
 
 abbrev landing : Request
 landing = Cmd (Land 0 (span 0 1 0 2) (record { left = false; right = false }) Allow)
@@ -135,3 +142,128 @@ not_locked = refl
 
 not_owned : asked free (Cmd (Unlock 0)) ≡ refused free (NotOwned 0)
 not_owned = refl
+
+-- a state after requests, and the replies to them in order
+
+abbrev after_requests : State → List Request → State
+after_requests state [] = state
+after_requests state (request ∷ requests) = after_requests (asked state request).after requests
+
+abbrev replies : State → List Request → List Reply
+replies state [] = []
+replies state (request ∷ requests) = (asked state request).reply ∷ replies (asked state request).after requests
+
+-- a text without a line end, in which many revisions can be made
+abbrev text : List (List ℕ) → State
+text lines = beginning (record { text = lines; eol = Lf; bom = false }) 99
+
+abbrev edits_of : State → Edits
+edits_of state = state.editing.edits
+
+-- nothing is undone while a transaction is open, and a transaction is one group
+abbrev while_open : List Request
+while_open = Cmd Undo ∷ Cmd Begin ∷ put (Change.Insert (place 0 0) (codes "a" ∷ [])) ∷ Cmd Undo ∷ Cmd End ∷ []
+
+open-replies : replies (text ([] ∷ [])) while_open
+    ≡ reply.Refused Nothing ∷ reply.Depth 1 ∷ reply.Edited 1 1 1 ∷ reply.Refused (StillOpen 1) ∷ reply.Depth 0 ∷ []
+open-replies = refl
+
+open-edits : edits_of (after_requests (text ([] ∷ [])) while_open)
+    ≡ record { depth = 0; current = []; undo = (Step.Insert 0 0 (codes "a") ∷ []) ∷ []; redo = [] }
+open-edits = refl
+
+not_open : (asked (text ([] ∷ [])) (Cmd End)).reply ≡ reply.Refused NotOpen
+not_open = refl
+
+-- a group is undone once and redone once
+abbrev remove_first : Request
+remove_first = put (Change.Remove (span 0 0 0 1))
+
+abbrev twice : List Request
+twice = remove_first ∷ Cmd Undo ∷ Cmd Redo ∷ Cmd Redo ∷ []
+
+twice-replies : replies (text (codes "ab" ∷ [])) twice
+    ≡ reply.Edited 1 1 0 ∷ reply.Edited 1 2 0 ∷ reply.Edited 1 3 0 ∷ reply.Refused Nothing ∷ []
+twice-replies = refl
+
+twice-edits : edits_of (after_requests (text (codes "ab" ∷ [])) twice)
+    ≡ record { depth = 0; current = []; undo = (Step.Remove 0 0 (codes "a") ∷ []) ∷ []; redo = [] }
+twice-edits = refl
+
+undone-made : (asked (after_requests (text (codes "ab" ∷ [])) (remove_first ∷ [])) (Cmd Undo)).made ≡ Insert 0 0 (codes "a") ∷ []
+undone-made = refl
+
+undone-edits : edits_of (after_requests (text (codes "ab" ∷ [])) (remove_first ∷ Cmd Undo ∷ []))
+    ≡ record { depth = 0; current = []; undo = []; redo = (Step.Remove 0 0 (codes "a") ∷ []) ∷ [] }
+undone-edits = refl
+
+-- an empty change keeps what may be redone, and another one does not
+kept-redo : edits_of (after_requests (text (codes "ab" ∷ [])) (remove_first ∷ Cmd Undo ∷ put (Change.Insert (place 0 0) ([] ∷ [])) ∷ []))
+    ≡ record { depth = 0; current = []; undo = []; redo = (Step.Remove 0 0 (codes "a") ∷ []) ∷ [] }
+kept-redo = refl
+
+lost-redo : edits_of (after_requests (text (codes "ab" ∷ [])) (remove_first ∷ Cmd Undo ∷ put (Change.Wrap (place 0 1)) ∷ []))
+    ≡ record { depth = 0; current = []; undo = (Step.Wrap 1 1 ∷ []) ∷ []; redo = [] }
+lost-redo = refl
+
+-- a text of two lines is inserted
+two_lines : asked (text (codes "xy" ∷ [])) (put (Change.Insert (place 0 1) (codes "a" ∷ codes "b" ∷ []))) ≡ record {
+  reply = reply.Edited 3 3 0;
+  made = Insert 0 1 (codes "a") ∷ Wrap 0 2 ∷ Insert 1 0 (codes "b") ∷ [];
+  finished = Some (Insert 0 1 (codes "a") ∷ Wrap 0 2 ∷ Insert 1 0 (codes "b") ∷ []);
+  after = after_requests (text (codes "xy" ∷ [])) (put (Change.Insert (place 0 1) (codes "a" ∷ codes "b" ∷ [])) ∷ []);
+}
+two_lines = refl
+
+-- a part of three lines is replaced
+abbrev replace : Request
+replace = put (Change.Replace (span 0 0 2 0) (codes "z" ∷ []))
+
+three_lines-reply : (asked (text (codes "a" ∷ codes "b" ∷ codes "c" ∷ [])) replace).reply ≡ reply.Edited 5 5 0
+three_lines-reply = refl
+
+three_lines-made : (asked (text (codes "a" ∷ codes "b" ∷ codes "c" ∷ [])) replace).made
+    ≡ Remove 1 0 1 ∷ Unwrap 2 ∷ Remove 0 0 1 ∷ Unwrap 1 ∷ Insert 0 0 (codes "z") ∷ []
+three_lines-made = refl
+
+three_lines-text : text_of (after_requests (text (codes "a" ∷ codes "b" ∷ codes "c" ∷ [])) (replace ∷ [])).editing ≡ codes "zc" ∷ []
+three_lines-text = refl
+
+three_lines-undone : text_of (after_requests (text (codes "a" ∷ codes "b" ∷ codes "c" ∷ [])) (replace ∷ Cmd Undo ∷ [])).editing
+    ≡ codes "a" ∷ codes "b" ∷ codes "c" ∷ []
+three_lines-undone = refl
+
+-- of a change of three primitives two are made: they are a transaction
+cut_change : react_cut (text (codes "xy" ∷ [])) 0 (put (Change.Insert (place 0 1) (codes "a" ∷ codes "b" ∷ []))) 2 ≡ record {
+  reply = reply.Cut 2 2 0;
+  made = Insert 0 1 (codes "a") ∷ Wrap 0 2 ∷ [];
+  finished = Some (Insert 0 1 (codes "a") ∷ Wrap 0 2 ∷ []);
+  after = record (text (codes "xy" ∷ [])) {
+    editing = record (text (codes "xy" ∷ [])).editing {
+      trail = Insert 0 1 (codes "a") ∷ Wrap 0 2 ∷ [];
+      edits = record { depth = 0; current = []; undo = (Step.Insert 0 1 (codes "a") ∷ Step.Wrap 1 2 ∷ []) ∷ []; redo = [] };
+    };
+  };
+}
+cut_change = refl
+
+-- of an undo of two primitives one is made: the group is cut in two
+cut_undo : edits_of (react_cut (after_requests (text (codes "ab" ∷ [])) (put (Change.Replace (span 0 0 0 1) (codes "c" ∷ [])) ∷ [])) 0 (Cmd Undo) 1).after
+    ≡ record { depth = 0; current = []; undo = (Step.Remove 0 0 (codes "a") ∷ []) ∷ []; redo = (Step.Insert 0 0 (codes "c") ∷ []) ∷ [] }
+cut_undo = refl
+
+-- .. and so it is on the way forth
+cut_redo : edits_of (react_cut (after_requests (text (codes "ab" ∷ [])) (put (Change.Replace (span 0 0 0 1) (codes "c" ∷ [])) ∷ Cmd Undo ∷ [])) 0 (Cmd Redo) 1).after
+    ≡ record { depth = 0; current = []; undo = (Step.Remove 0 0 (codes "a") ∷ []) ∷ []; redo = (Step.Insert 0 0 (codes "c") ∷ []) ∷ [] }
+cut_redo = refl
+
+-- the primitives of the events: those of the finished transactions, and then those of the open one
+abbrev as_events : State → List Request → List Event
+as_events state [] = []
+as_events state (request ∷ requests) =
+    record { seat = 0; request = request; reply = (asked state request).reply } ∷ as_events (asked state request).after requests
+
+finished : transactions (text (codes "ab" ∷ [])) (as_events (text (codes "ab" ∷ []))
+    (remove_first ∷ Cmd Begin ∷ put (Change.Wrap (place 0 0)) ∷ put (Change.Unwrap 1) ∷ Cmd End ∷ Cmd Begin ∷ Cmd End ∷ Cmd Undo ∷ Cmd Begin ∷ put (Change.Wrap (place 0 1)) ∷ []))
+    ≡ (Remove 0 0 1 ∷ []) ∷ (Wrap 0 0 ∷ Unwrap 1 ∷ []) ∷ (Wrap 0 0 ∷ Unwrap 1 ∷ []) ∷ []
+finished = refl

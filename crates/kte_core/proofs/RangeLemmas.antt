@@ -1,5 +1,5 @@
 -- The ranges of a state and of its document.
-use Rattle.std.proofs.Common.{◌≡◌, ℕ, ◌+◌, Bool, true, false, cond, List, [], Option, None, Some, refl, ap, sym, subst, ◌∙◌}
+use Rattle.std.proofs.Common.{◌≡◌, ℕ, ◌+◌, Bool, true, false, cond, List, Option, None, Some, refl, ap, sym, subst, ◌∙◌}
 use Rattle.std.specs.Option.{option_map}
 use Rattle.std.specs.Ordering.{nat_cmp, eq_by_cmp}
 use Rattle.std.specs.FinMap.{FinMap, get, insert, remove, get-insert, get-remove}
@@ -11,7 +11,7 @@ use Rattle.kte_place.specs.declared.span.Empty.{Empty}
 use Rattle.kte_ranges.specs.declared.info.RangeKind.TheVariants.{User}
 use Rattle.kte_doc.specs.Documents.{Document, CameBy}
 use Rattle.kte_doc.specs.Standings.{Standing, Standings, new_range, reset_to}
-use Rattle.kte_core.specs.React.{Range, Editing, State, stands, made_now, set_now, placed, set_range, drop_range, react_command}
+use Rattle.kte_core.specs.React.{Range, State, made_now, set_now, placed, set_range, drop_range, react_command}
 use Rattle.kte_core.specs.Shown.{range_of, told_of, IsOf, Replies}
 use Rattle.kte_core.specs.declared.reply.Reply.{Reply}
 use Rattle.kte_core.specs.declared.reply.Reply.TheVariants as reply

@@ -1,5 +1,5 @@
 -- Locking, unlocking and landing, in a state and in its document.
-use Rattle.std.proofs.Common.{◌≡◌, ℕ, ◌==◌, ◌||◌, if◌then◌else◌, Ok, Err, Bool, true, false, List, [], ◌∷◌, ◌++◌, Option, None, Some, IsTrue, refl, ap, sym, subst, ◌∙◌}
+use Rattle.std.proofs.Common.{◌≡◌, ℕ, ◌==◌, ◌||◌, if◌then◌else◌, Ok, Err, Bool, true, false, List, [], ◌∷◌, ◌++◌, Option, refl, ap, sym, subst, ◌∙◌}
 use Rattle.std.specs.Option.{option_map}
 use Rattle.std.specs.FinMap.{get}
 use Rattle.kte_text.specs.declared.primitive.Primitive.{Primitive}
@@ -13,9 +13,9 @@ use Rattle.kte_history.specs.Locks.{oldest, is_locked, has_lock, unlocked}
 use Rattle.kte_history.specs.Revisions.{kept_since, can_land}
 use Rattle.kte_doc.specs.Documents.{Document, CameBy, KeepsTrail, history_of}
 use Rattle.kte_doc.specs.Trail.{stand}
-use Rattle.kte_core.specs.React.{State, revision_of, can_land_from, land, unlock, react_command}
+use Rattle.kte_core.specs.Editing.{revision_of}
+use Rattle.kte_core.specs.React.{State, can_land_from, land, unlock, react_command}
 use Rattle.kte_core.specs.Shown.{range_of, IsOf, Replies}
-use Rattle.kte_core.specs.declared.reply.Reply.{Reply}
 use Rattle.kte_core.specs.declared.reply.Reply.TheVariants as reply
 use Rattle.kte_core.specs.declared.reply.Refusal.TheVariants as refusal
 use Rattle.kte_command.specs.declared.command.Command.TheVariants.{Lock, Unlock, Land}
@@ -90,6 +90,12 @@ Replies-not_locked state document revision span expand empty is_of may =
     let can : false ≡ can_land_from state revision = sym may ∙ same_can_land state document revision is_of in
     subst (λ (b : Bool). Replies (land state revision span expand empty b) (reply.Refused (refusal.NotLocked revision (oldest document.locks))) document) can
     (record { reply = ap (λ (locks : List lock_type.Lock). reply.Refused (refusal.NotLocked revision (oldest locks))) is_of.locks; made = refl; leads = is_of })
+
+-- what a landing gives that is not refused
+pub landed_ok : (may : Bool) (given landed : Option Ends) (refused : NotLocked)
+    → Ok given ≡ (if may then Ok landed else Err refused) → (may ≡ true) × (given ≡ landed)
+landed_ok true given landed refused is = (refl, cc)
+landed_ok false given landed refused is = absurd (cc)
 
 -- a landing that was refused
 pub landed_err : (may : Bool) (landed : Option Ends) (refused given : NotLocked)

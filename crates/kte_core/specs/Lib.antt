@@ -1,3 +1,5 @@
+pub mod Editing
+pub mod Groups
 pub mod React
 pub mod Requests
 pub mod Replay

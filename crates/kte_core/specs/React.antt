@@ -1,13 +1,10 @@
 -- What a request makes of the present state, and what is replied. Source: KTextEditor's Document
 -- and MovingRange; the order of refusals, and that numbers of ranges rise from 1, are this
 -- project's own.
-use Rattle.std.specs.Prelude.{ℕ, ◌+◌, Bool, true, false, ◌==◌, ◌||◌, List, [], ◌∷◌, ◌++◌, length, nat_lt, Option, Some, None, if◌then◌else◌}
-use Rattle.std.specs.Option.{option_map, option_or}
+use Rattle.std.specs.Prelude.{ℕ, ◌+◌, ◌<◌, Bool, true, false, ◌==◌, ◌||◌, List, [], ◌∷◌, ◌++◌, length, Option, Some, None}
 use Rattle.std.specs.Ordering.{nat_cmp}
 use Rattle.std.specs.FinMap.{FinMap, get, insert, remove}
-use Rattle.kte_text.specs.Primitives.{is_empty, misfit, after_all}
 use Rattle.kte_text.specs.declared.primitive.Primitive.{Primitive}
-use Rattle.kte_text.specs.declared.loading.Loaded.{Loaded}
 use Rattle.kte_place.specs.Ends.{Ends}
 use Rattle.kte_place.specs.declared.span.Expand.{Expand}
 use Rattle.kte_place.specs.declared.span.Empty.{Empty}
@@ -19,27 +16,14 @@ use Rattle.kte_history.specs.declared.lock.Owner.TheVariants.{Editor}
 use Rattle.kte_history.specs.Locks.{oldest, is_locked, has_lock, unlocked}
 use Rattle.kte_doc.specs.Trail.{stand}
 use Rattle.kte_command.specs.declared.command.Command.{Command}
-use Rattle.kte_command.specs.declared.command.Command.TheVariants.{Put, MakeRange, SetRange, DropRange, ShowRange, Lock, Unlock, Land}
+use Rattle.kte_command.specs.declared.command.Command.TheVariants.{Edit, Begin, End, Undo, Redo, MakeRange, SetRange, DropRange, ShowRange, Lock, Unlock, Land}
+use Rattle.kte_core.specs.Editing.{Editing, EditReaction, revision_of, change_reaction, begin_reaction, end_reaction, undo_reaction, redo_reaction, cut_reaction}
 use Rattle.kte_core.specs.declared.request.Request.{Request}
 use Rattle.kte_core.specs.declared.request.Request.TheVariants.{Cmd}
 use Rattle.kte_core.specs.declared.reply.Reply.{Reply}
 use Rattle.kte_core.specs.declared.reply.Reply.TheVariants as reply
 use Rattle.kte_core.specs.declared.reply.Refusal.{Refusal}
-use Rattle.kte_core.specs.declared.reply.Refusal.TheVariants.{Misfit, RevisionsFull, NoRange, NotLocked, NotOwned}
-
--- What is edited: what was loaded, how many primitives may be made, and those made since, in order
-pub record Editing : Type 0 where
-  pub loaded : Loaded
-  pub limit : ℕ
-  pub trail : List Primitive
-
--- the present text
-abbrev pub text_of : Editing → List (List ℕ)
-text_of editing = after_all editing.trail editing.loaded.text
-
--- the present revision: how many primitives have been made
-abbrev pub revision_of : Editing → ℕ
-revision_of editing = length editing.trail
+use Rattle.kte_core.specs.declared.reply.Refusal.TheVariants.{NoRange, NotLocked, NotOwned}
 
 -- A range: what it does at a change, whose it is, and where it was made or last set
 pub record Range : Type 0 where
@@ -74,71 +58,37 @@ pub record State : Type 0 where
   -- the locks on revisions, in the order in which they were taken
   pub locks : List lock_type.Lock
 
--- the steps of an edit: an insertion or a removal of nothing is no step
-abbrev pub steps_of : Primitive → List Primitive
-steps_of step = if is_empty step then [] else step ∷ []
-
--- Why an edit is refused in a text, at a revision, under a limit of revisions: for its misfit,
--- which is judged for an edit of no steps too; then because its steps would lead past the limit.
--- `None` where it is made
-abbrev pub refusal_of : List (List ℕ) → ℕ → ℕ → Primitive → Option Refusal
-refusal_of text revision limit step =
-    option_or (option_map Misfit (misfit step text))
-    (if nat_lt limit (revision + length (steps_of step)) then Some (RevisionsFull revision)
-    else None)
-
--- What comes of an edit: the reply, the primitives that were made, and what is edited after it
-pub record Edit : Type 0 where
-  pub reply : Reply
-  pub made : List Primitive
-  pub after : Editing
-
--- what is edited after these steps
-abbrev pub made_further : Editing → List Primitive → Editing
-made_further editing steps = record editing { trail = editing.trail ++ steps }
-
--- an edit that is refused, or whose steps are made, outside of any transaction
-abbrev pub edit_judged : Option Refusal → Editing → List Primitive → Edit
-edit_judged (Some refusal) editing steps = record {
-  reply = reply.Refused refusal;
-  made = [];
-  after = editing;
-}
-edit_judged None editing steps = record {
-  reply = reply.Edited (length steps) (revision_of (made_further editing steps)) 0;
-  made = steps;
-  after = made_further editing steps;
-}
-
--- what comes of an edit, which is judged whole before its first step
-abbrev pub edit : Editing → Primitive → Edit
-edit editing step =
-    edit_judged (refusal_of (text_of editing) (revision_of editing) editing.limit step) editing
-    (steps_of step)
-
--- What comes of a request: the reply, the primitives that were made, and the state after it
+-- What comes of a request: the reply, the primitives that were made, the transaction that it
+-- finishes, if it finishes one that has primitives, and the state after it
 pub record Reaction : Type 0 where
   pub reply : Reply
   pub made : List Primitive
+  pub finished : Option (List Primitive)
   pub after : State
 
 -- a reply that changes nothing
 abbrev pub replied : State → Reply → Reaction
-replied state reply = record { reply = reply; made = []; after = state }
+replied state reply = record { reply = reply; made = []; finished = None; after = state }
 
 -- a refusal changes nothing
 abbrev pub refused : State → Refusal → Reaction
 refused state refusal = replied state (reply.Refused refusal)
 
 -- an edit leaves the ranges as they are: where they stand follows from the trail
-abbrev pub edited : State → Edit → Reaction
-edited state edit = record { reply = edit.reply; made = edit.made; after = record state { editing = edit.after } }
+abbrev pub edited : State → EditReaction → Reaction
+edited state edit = record {
+  reply = edit.reply;
+  made = edit.made;
+  finished = edit.finished;
+  after = record state { editing = edit.after };
+}
 
 -- the range is put under the number, and the reply says where it stands
 abbrev pub placed : State → ℕ → Range → Reaction
 placed state id range = record {
   reply = reply.Range id (stands state.editing range);
   made = [];
+  finished = None;
   after = record state { ranges = insert state.ranges id range };
 }
 
@@ -150,8 +100,12 @@ set_range state id span (Some range) = placed state id (set_now state.editing sp
 -- removing a range, if there is one of this number
 abbrev pub drop_range : State → ℕ → Option Range → Reaction
 drop_range state id None = refused state (NoRange id)
-drop_range state id (Some range) =
-    record { reply = reply.Dropped id; made = []; after = record state { ranges = remove state.ranges id } }
+drop_range state id (Some range) = record {
+  reply = reply.Dropped id;
+  made = [];
+  finished = None;
+  after = record state { ranges = remove state.ranges id };
+}
 
 -- where a range stands, if there is one of this number
 abbrev pub show_range : State → ℕ → Option Range → Reaction
@@ -163,6 +117,7 @@ abbrev pub lock : State → Reaction
 lock state = record {
   reply = reply.Locked (revision_of state.editing);
   made = [];
+  finished = None;
   after = record state { locks = state.locks ++ record { owner = Editor; revision = revision_of state.editing } ∷ [] };
 }
 
@@ -171,6 +126,7 @@ abbrev pub unlock : State → ℕ → Bool → Reaction
 unlock state revision true = record {
   reply = reply.Unlocked revision;
   made = [];
+  finished = None;
   after = record state { locks = unlocked state.locks Editor revision };
 }
 unlock state revision false = refused state (NotOwned revision)
@@ -186,9 +142,13 @@ land state revision span expand empty true =
     (record { revision = revision; span = span })))
 land state revision span expand empty false = refused state (NotLocked revision (oldest state.locks))
 
--- what comes of a command: only an edit changes what is edited
+-- what comes of a command: only changes, transactions, undo and redo change what is edited
 abbrev pub react_command : State → Command → Reaction
-react_command state (Put step) = edited state (edit state.editing step)
+react_command state (Edit change) = edited state (change_reaction state.editing change)
+react_command state Begin = edited state (begin_reaction state.editing)
+react_command state End = edited state (end_reaction state.editing)
+react_command state Undo = edited state (undo_reaction state.editing)
+react_command state Redo = edited state (redo_reaction state.editing)
 react_command state (MakeRange span expand empty) =
     placed (record state { next_id = state.next_id + 1 }) state.next_id
     (made_now state.editing span expand empty User)
@@ -204,3 +164,22 @@ react_command state (Land revision span expand empty) =
 -- what comes of a seat's request
 abbrev pub react : State → ℕ → Request → Reaction
 react state seat (Cmd command) = react_command state command
+
+-- what comes of a seat's request where memory runs out after so many primitives
+abbrev pub react_cut : State → ℕ → Request → ℕ → Reaction
+react_cut state seat (Cmd command) n = edited state (cut_reaction state.editing command n)
+
+-- what comes of a seat's request: after so many primitives memory may have run out
+abbrev pub react_by : State → ℕ → Request → Option ℕ → Reaction
+react_by state seat request None = react state seat request
+react_by state seat request (Some n) = react_cut state seat request n
+
+-- the number of primitives that were made before memory ran out, if the reply says that it did
+abbrev pub cut_at : Reply → Option ℕ
+cut_at (reply.Cut steps revision depth) = Some steps
+cut_at _ = None
+
+-- memory runs out only between two primitives that the request calls for
+abbrev pub CutsBetween : List Primitive → Option ℕ → Type 0
+CutsBetween primitives None = Unit {0}
+CutsBetween primitives (Some n) = (0 < n) × (n < length primitives)

@@ -4,15 +4,19 @@
 //! [`Core::step`] has the reply, the primitives and the next state of the reaction in `React`. A
 //! core is seen as what it began from and its events; its state is their replay.
 //!
-//! - `session`: the core and its calls, and the edits of the text
+//! - `session`: the core and its calls
+//! - `edits`: the commands that change the text, open and close transactions, undo and redo
 //! - `ranges`, `revisions`: the commands on ranges, and those on revisions
 //! - `request`, `reply`, `event`: what is asked, what is replied, and what is kept of both
 //! - `laws`: what follows from the reaction alone
 //!
-//! In specs/, `React` has what comes of each request, `Requests` which ones are allowed, `Replay`
-//! the session as a replay of its events, and `Shown` what the document shows of the state.
+//! In specs/, `Editing` has what comes of changes, transactions, undo and redo, `React` what comes
+//! of each request, `Requests` which ones are allowed, `Replay` the session as a replay of its
+//! events, `Groups` why groups can be undone and redone, and `Shown` what the document shows of the
+//! state.
 #![tactic(auto)]
 
+mod edits;
 mod event;
 pub mod laws;
 mod ranges;

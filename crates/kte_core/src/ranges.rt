@@ -1,7 +1,7 @@
 ghost use Rattle.std.specs.Prelude.{◌≡◌, ◌^◌, ◌<◌, None, Some, length, IfOk, IsOk, OnErr};
 ghost use Rattle.std.specs.FinMap.{get};
 ghost use Rattle.kte_place.specs.Span.{made};
-ghost use Rattle.kte_doc.specs.Standings.{SpanIsInReach};
+ghost use Rattle.kte_place.specs.Ends.{SpanIsInReach};
 ghost use Rattle.kte_command.specs.declared.command.Command.TheVariants.{MakeRange, SetRange, DropRange, ShowRange};
 ghost use Rattle.kte_core.specs.React.{react_command};
 ghost use Rattle.kte_core.specs.Shown.{IsOf, Replies, told_of};

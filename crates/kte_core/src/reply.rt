@@ -4,11 +4,22 @@ use kte_text::Misfit;
 /// The reply to a request.
 #[derive(Clone, Copy, Debug, PartialEq, Eq)]
 pub enum Reply {
-    /// The edit was made in `steps` primitives, which led to `revision`. `depth` is the number of
-    /// open transactions, always 0 today.
+    /// The change, the undo or the redo was made in `steps` primitives, which led to `revision`.
+    /// `depth` is the number of open transactions, each in the one before.
     Edited {
         steps: u64,
         revision: u64,
+        depth: u32,
+    },
+    /// Memory ran out after the first `steps` primitives of the change, the undo or the redo. They
+    /// are made, and led to `revision`; the others are not. `depth` is as in `Edited`.
+    Cut {
+        steps: u64,
+        revision: u64,
+        depth: u32,
+    },
+    /// A transaction was opened or closed, and so many are open now.
+    Depth {
         depth: u32,
     },
     /// Where the range stands; without a span it is invalid.
@@ -39,9 +50,16 @@ pub enum Reply {
 /// Why a request is refused.
 #[derive(Clone, Copy, Debug, PartialEq, Eq)]
 pub enum Refusal {
-    /// The edit does not fit the text.
+    /// The change does not fit the text.
     Misfit(Misfit),
-    /// The edit would lead past the last revision that may be made. `revision` is the present one.
+    /// No transaction is open, so none can be closed.
+    NotOpen,
+    /// A transaction is open, at this depth, so nothing can be undone or redone.
+    StillOpen { depth: u32 },
+    /// There is no group to undo, or to redo.
+    Nothing,
+    /// The primitives would lead past the last revision that may be made. `revision` is the present
+    /// one.
     RevisionsFull { revision: u64 },
     /// There is no range of this number.
     NoRange { id: u64 },

@@ -1,5 +1,5 @@
 ghost use Rattle.std.specs.Prelude.{◌≡◌, IfOk, OnErr};
-ghost use Rattle.kte_doc.specs.Standings.{SpanIsInReach};
+ghost use Rattle.kte_place.specs.Ends.{SpanIsInReach};
 ghost use Rattle.kte_command.specs.declared.command.Command.TheVariants.{Lock, Unlock, Land};
 ghost use Rattle.kte_core.specs.React.{react_command};
 ghost use Rattle.kte_core.specs.Shown.{IsOf, Replies};

@@ -1,19 +1,20 @@
-ghost use Rattle.std.specs.Prelude.{◌≡◌, ◌+◌, ◌^◌, ◌<◌, ◌≤◌, None, Some, [], ◌∷◌, ◌++◌, length, IfOk, IsOk, OnOk, OnErr};
-ghost use Rattle.std.specs.Result.{result_err};
-ghost use Rattle.std.specs.FinMap.{get};
-ghost use Rattle.kte_text.specs.Primitives.{HasEnd};
-ghost use Rattle.kte_core.specs.React.{react, edit, edited, steps_of, refusal_of};
+ghost use Rattle.std.specs.Prelude.{◌≡◌, ◌≢◌, ◌+◌, ◌^◌, ◌<◌, ◌≤◌, [], ◌∷◌, ◌++◌, length, IfOk, IsOk, OnOk, OnErr};
+ghost use Rattle.kte_command.specs.declared.command.Command.TheVariants.{Begin};
+ghost use Rattle.kte_core.specs.Groups.{GroupsFit};
+ghost use Rattle.kte_core.specs.React.{react};
 ghost use Rattle.kte_core.specs.Requests.{IsAllowed};
-ghost use Rattle.kte_core.specs.Shown.{IsOf, Meets};
+ghost use Rattle.kte_core.specs.Shown.{IsOf, Meets, Reacts};
+ghost use Rattle.kte_core.specs.declared.reply.Refusal.TheVariants.{RevisionsFull};
 ghost use Rattle.kte_core.specs.declared.reply.Reply.TheVariants.{Refused};
 
 use crate::event::{Event, Journal, Step};
-use crate::reply::{Refusal, Reply};
+use crate::reply::Reply;
 use crate::request::Request;
-use crate::{ranges, revisions};
+use crate::{edits, ranges, revisions};
 use kte_command::Command;
 use kte_doc::Doc;
-use kte_text::{Batch, Loaded, Primitive, Text, fits};
+use kte_text::{Batch, Lines, Loaded, Text};
+use kte_undo::Undo;
 use std::alloc::{AllocError, Global};
 use std::marker::Model;
 
@@ -26,6 +27,7 @@ pub struct Core {
     loaded: Loaded,
     limit: u64,
     doc: Doc,
+    undo: Undo,
     journal: Journal,
 }
 
@@ -42,8 +44,9 @@ impl Model for Core {
 }
 
 impl Core {
-    ghost use Rattle.kte_core.specs.React.{text_of};
-    ghost use Rattle.kte_core.specs.Replay.{beginning, Legal, present};
+    ghost use Rattle.kte_undo.specs.Steps.{redo_of};
+    ghost use Rattle.kte_core.specs.Editing.{text_of};
+    ghost use Rattle.kte_core.specs.Replay.{beginning, Legal, present, primitives_in, transactions};
 
     /// Creates a session at revision 0, without ranges. At most `revisions` primitives can be made.
     pub fn new(alloc: Global, loaded: Loaded, revisions: u64) -> Result<Core, AllocError>
@@ -51,25 +54,29 @@ impl Core {
         ensures { IfOk result (λ core. core
             ≡ record { loaded = loaded; limit = revisions; events = [] }) }
     {
+        // Called for its contract alone: what is loaded is a text.
+        let _lines = loaded.text.lines();
         let doc = Doc::new(alloc, loaded.text.copy(alloc)?, revisions)?;
         Ok(Core {
             loaded,
             limit: revisions,
             doc,
+            undo: Undo::new(alloc),
             journal: Journal::new(alloc),
         })
     }
 
     /// Carries out a request of a seat, and returns the reply with the primitives that were made. A
     /// request that is refused is an event too. After an error nothing has changed.
+    ///
+    /// Where memory runs out between two primitives, the reply is `Cut`: it has the number of those
+    /// that were made. An undo and a redo that are cut leave the rest of the group in its list.
     pub fn step(&mut self, alloc: Global, seat: u32, request: Request) -> Result<Step, AllocError>
         requires allowed { IsAllowed seat request }
-        ensures reply { IfOk result (λ step. step.reply
-            ≡ (react (present self.old) seat request).reply) }
-        ensures made { IfOk result (λ step. step.made
-            ≡ (react (present self.old) seat request).made) }
-        ensures leads { OnOk result (present self.new
-            ≡ (react (present self.old) seat request).after) }
+        requires depth { request ≡ Request.Cmd Begin
+            → (present self.old).editing.edits.depth + 1 < 2 ^ 32 }
+        ensures reacts { IfOk result (λ step.
+            Reacts (present self.old) seat request step (present self.new)) }
         ensures event { IfOk result (λ step. self.new ≡ record self.old {
           events = self.old.events
               ++ record { seat = seat; request = request; reply = step.reply } ∷ [];
@@ -78,7 +85,7 @@ impl Core {
     {
         let journal = &mut self.journal;
         journal.events.reserve(1)?;
-        let step = carry_out(alloc, &mut self.doc, self.limit, &request)?;
+        let step = carry_out(alloc, &mut self.doc, &mut self.undo, &request)?;
         journal.events.push_reserved(Event {
             seat,
             request,
@@ -91,6 +98,10 @@ impl Core {
     pub fn journal(&self) -> &Journal
         ensures events { result.now ≡ self.now.events }
         ensures legal { Legal (beginning self.now.loaded self.now.limit) self.now.events }
+        ensures transactions { (present self.now).editing.trail
+            ≡ primitives_in
+            (transactions (beginning self.now.loaded self.now.limit) self.now.events)
+            ++ redo_of (present self.now).editing.edits.current }
     {
         &self.journal
     }
@@ -102,6 +113,22 @@ impl Core {
         &self.doc
     }
 
+    /// Returns how many transactions are open, each in the one before. Each was opened by an event.
+    pub fn depth(&self) -> u32
+        ensures depth { result ≡ (present self.now).editing.edits.depth }
+        ensures within { result ≤ length self.now.events }
+    {
+        self.undo.depth()
+    }
+
+    /// Returns how many groups may be undone, and how many may be redone.
+    pub fn undo_counts(&self) -> (u64, u64)
+        ensures undo { result.0 ≡ length (present self.now).editing.edits.undo }
+        ensures redo { result.1 ≡ length (present self.now).editing.edits.redo }
+    {
+        self.undo.counts()
+    }
+
     /// Returns a copy of the present text.
     pub fn copy_text(&self, alloc: Global) -> Result<Text, AllocError>
         ensures { IfOk result (λ text. text ≡ text_of (present self.now).editing) }
@@ -110,24 +137,35 @@ impl Core {
     }
 }
 
-/// Carries out a request in the document. What is refused takes no memory.
+/// Carries out a request in the document. A request that is refused takes no memory, unless it
+/// would lead past the last revision.
 fn carry_out(
     alloc: Global,
     doc: &mut Doc,
-    limit: u64,
+    undo: &mut Undo,
     request: &Request,
 ) -> Result<Step, AllocError>
     requires allowed { IsAllowed 0 request.now }
-    requires limit { limit ≡ doc.old.limit }
     requires number { doc.old.next < 2 ^ 63 }
+    requires depth { request.now ≡ Request.Cmd Begin → undo.old.edits.depth + 1 < 2 ^ 32 }
+    requires fit { GroupsFit undo.old.edits doc.old.text }
     ensures meets { IfOk result (λ step. (state : _) → IsOf state doc.old
-        → Meets (react state 0 request.now) step doc.new) }
+        → undo.old.edits ≡ state.editing.edits
+        → Meets state 0 request.now step doc.new undo.new.edits) }
     ensures refused { (state refusal : _) → IsOf state doc.old
-        → (react state 0 request.now).reply ≡ Refused refusal → IsOk result }
+        → undo.old.edits ≡ state.editing.edits
+        → (react state 0 request.now).reply ≡ Refused refusal
+        → ((revision : _) → refusal ≢ RevisionsFull revision) → IsOk result }
+    ensures fit { (state : _) → IsOf state doc.old → GroupsFit undo.new.edits doc.new.text }
     ensures err { OnErr result (doc.new ≡ doc.old) }
+    ensures err_edits { OnErr result (undo.new.edits ≡ undo.old.edits) }
 {
     let reply = match request.command() {
-        Command::Put { step } => return put(alloc, doc, limit, step),
+        Command::Edit { change } => return edits::change(alloc, doc, undo, change),
+        Command::Undo => return edits::undo(alloc, doc, undo),
+        Command::Redo => return edits::redo(alloc, doc, undo),
+        Command::Begin => edits::begin(undo),
+        Command::End => edits::end(undo),
         Command::MakeRange {
             span,
             expand,
@@ -146,51 +184,6 @@ fn carry_out(
         } => revisions::land(doc, *revision, *span, *expand, *empty),
     };
     Ok(replied(alloc, reply))
-}
-
-/// Makes an edit in the document, which is judged whole before anything is copied.
-fn put(alloc: Global, doc: &mut Doc, limit: u64, step: &Primitive) -> Result<Step, AllocError>
-    requires end { HasEnd step.now }
-    requires limit { limit ≡ doc.old.limit }
-    ensures meets { IfOk result (λ made. (state : _) → IsOf state doc.old
-        → Meets (edited state (edit state.editing step.now)) made doc.new) }
-    ensures refused { (refusal : _)
-        → refusal_of doc.old.text doc.old.revision doc.old.limit step.now ≡ Some refusal
-        → IsOk result }
-    ensures err { OnErr result (doc.new ≡ doc.old) }
-{
-    if let Err(refusal) = judge(doc, limit, step) {
-        return Ok(replied(alloc, Reply::Refused(refusal)));
-    }
-    let mut made = Batch::new(alloc);
-    if !step.is_empty() {
-        made.push(step.copy(alloc)?)?;
-        let Ok(_) = doc.primitive(step) else {
-            return Err(AllocError);
-        };
-    }
-    let reply = Reply::Edited {
-        steps: made.len(),
-        revision: doc.revision(),
-        depth: 0,
-    };
-    Ok(Step { reply, made })
-}
-
-/// Returns why an edit is refused, if it is.
-fn judge(doc: &Doc, limit: u64, step: &Primitive) -> Result<(), Refusal>
-    requires end { HasEnd step.now }
-    requires limit { limit ≡ doc.now.limit }
-    ensures { result_err result ≡ refusal_of doc.now.text doc.now.revision doc.now.limit step.now }
-{
-    if let Err(misfit) = fits(doc, step) {
-        return Err(Refusal::Misfit(misfit));
-    }
-    let revision = doc.revision();
-    if !step.is_empty() && revision >= limit {
-        return Err(Refusal::RevisionsFull { revision });
-    }
-    Ok(())
 }
 
 /// Returns the step of a reply for which no primitive was made.

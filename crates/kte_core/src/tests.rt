@@ -1,23 +1,53 @@
+ghost use Rattle.kte_command.specs.Commands.{InRange};
+
 use crate::{Core, Event, Journal, Refusal, Reply, Request, Step};
 use kte_command::Command;
-use kte_text::{Line, Lines, Misfit, Primitive, load};
+use kte_edit::Change;
+use kte_place::{Place, Span};
+use kte_text::{Lines, Misfit, load};
 use std::alloc::Global;
+use std::process::Abort;
 use std::test::Fail;
 
-/// The line of a text of printable ASCII.
-fn line(alloc: Global, text: &[u8]) -> Result<Line, Fail> {
-    let mut lines = load(alloc, text)?.text.into_lines();
-    Ok(lines.pop().ok_or("no line")?)
+fn place(line: u32, column: u64) -> Place {
+    Place { line, column }
 }
 
-/// Asks for an insertion into line 0.
-fn insert(alloc: Global, core: &mut Core, column: u64, text: &[u8]) -> Result<Step, Fail> {
-    let step = Primitive::Insert {
-        line: 0,
-        column,
-        text: line(alloc, text)?,
-    };
-    Ok(core.step(alloc, 0, Request::Cmd(Command::Put { step }))?)
+/// Asks for a command.
+fn ask(alloc: Global, core: &mut Core, command: Command) -> Result<Step, Fail>
+    requires { InRange command }
+{
+    let _deeper = core.depth().checked_add(1).ok_or("too deep")?;
+    Ok(core.step(alloc, 0, Request::Cmd(command))?)
+}
+
+/// Asks for an insertion at a place.
+fn insert(alloc: Global, core: &mut Core, at: Place, text: &[u8]) -> Result<Reply, Fail> {
+    let text = load(alloc, text)?.text;
+    let change = Change::Insert { at, text };
+    Ok(ask(alloc, core, Command::Edit { change })?.reply)
+}
+
+/// Asks for a removal between two places.
+fn remove(alloc: Global, core: &mut Core, from: Place, to: Place) -> Result<Reply, Fail> {
+    let span = Span::new(from, to);
+    let change = Change::Remove { span };
+    Ok(ask(alloc, core, Command::Edit { change })?.reply)
+}
+
+/// Asks for a line to be split at its start.
+fn wrap(alloc: Global, core: &mut Core) -> Result<Reply, Fail> {
+    let change = Change::Wrap { at: place(0, 0) };
+    Ok(ask(alloc, core, Command::Edit { change })?.reply)
+}
+
+/// The reply to an edit outside of any transaction.
+fn edited(steps: u64, revision: u64) -> Reply {
+    Reply::Edited {
+        steps,
+        revision,
+        depth: 0,
+    }
 }
 
 /// The present text of a core, with `|` in front of each line.
@@ -35,34 +65,42 @@ fn shown(alloc: Global, core: &Core) -> Result<String, Fail> {
 fn an_insertion_is_made_and_is_an_event(rt: HostRuntime) -> Result<(), Fail> {
     let alloc = rt.alloc();
     let mut core = Core::new(alloc, load(alloc, b"hello\n")?, 8)?;
-    let step = insert(alloc, &mut core, 5, b"!")?;
-    let edited = Reply::Edited {
-        steps: 1,
-        revision: 1,
-        depth: 0,
-    };
-    assert_eq!(rt; step.reply, edited);
-    assert_eq!(rt; step.made.len(), 1);
-    assert_eq!(rt; shown(alloc, &core)?.as_str(), "|hello!|");
+    steps_of_an_insertion_is_made_and_is_an_event(&rt, alloc, &mut core)
+}
+
+fn steps_of_an_insertion_is_made_and_is_an_event(
+    rt: &impl Abort,
+    alloc: Global,
+    core: &mut Core,
+) -> Result<(), Fail> {
+    assert_eq!(rt; insert(alloc, core, place(0, 5), b"!")?, edited(1, 1));
+    assert_eq!(rt; shown(alloc, core)?.as_str(), "|hello!|");
     assert_eq!(rt; core.copy_text(alloc)?.len(), 2);
     assert_eq!(rt; core.doc().revision(), 1);
 
     assert_eq!(rt; core.journal().len(), 1);
     let event = core.journal().get(0);
     assert_eq!(rt; event.seat, 0);
-    assert_eq!(rt; event.reply, edited);
+    assert_eq!(rt; event.reply, edited(1, 1));
     Ok(())
 }
 
 #[test]
-fn a_refused_insertion_is_an_event_and_changes_nothing(rt: HostRuntime) -> Result<(), Fail> {
+fn a_refused_change_is_an_event_and_changes_nothing(rt: HostRuntime) -> Result<(), Fail> {
     let alloc = rt.alloc();
     let mut core = Core::new(alloc, load(alloc, b"hello\n")?, 8)?;
-    let step = insert(alloc, &mut core, 6, b"!")?;
+    steps_of_a_refused_change_is_an_event_and_changes_nothing(&rt, alloc, &mut core)
+}
+
+fn steps_of_a_refused_change_is_an_event_and_changes_nothing(
+    rt: &impl Abort,
+    alloc: Global,
+    core: &mut Core,
+) -> Result<(), Fail> {
     let refused = Reply::Refused(Refusal::Misfit(Misfit::NoColumn { line: 0, column: 6 }));
-    assert_eq!(rt; step.reply, refused);
-    assert!(rt; step.made.is_empty());
-    assert_eq!(rt; shown(alloc, &core)?.as_str(), "|hello|");
+    assert_eq!(rt; insert(alloc, core, place(0, 6), b"!")?, refused);
+    assert_eq!(rt; shown(alloc, core)?.as_str(), "|hello|");
+    assert_eq!(rt; core.undo_counts(), (0, 0));
 
     assert_eq!(rt; core.journal().len(), 1);
     assert_eq!(rt; core.journal().get(0).reply, refused);
@@ -70,19 +108,57 @@ fn a_refused_insertion_is_an_event_and_changes_nothing(rt: HostRuntime) -> Resul
 }
 
 #[test]
+fn a_span_is_judged_at_its_start_first(rt: HostRuntime) -> Result<(), Fail> {
+    let alloc = rt.alloc();
+    let mut core = Core::new(alloc, load(alloc, b"ab\ncd")?, 8)?;
+    steps_of_a_span_is_judged_at_its_start_first(&rt, alloc, &mut core)
+}
+
+fn steps_of_a_span_is_judged_at_its_start_first(
+    rt: &impl Abort,
+    alloc: Global,
+    core: &mut Core,
+) -> Result<(), Fail> {
+    let table = [
+        (
+            place(0, 3),
+            place(7, 0),
+            Misfit::NoColumn { line: 0, column: 3 },
+        ),
+        (place(0, 1), place(7, 0), Misfit::NoLine { line: 7 }),
+        (
+            place(0, 1),
+            place(1, 3),
+            Misfit::NoColumn { line: 1, column: 3 },
+        ),
+    ];
+    for (from, to, misfit) in table {
+        let refused = Reply::Refused(Refusal::Misfit(misfit));
+        assert_eq!(rt; remove(alloc, core, from, to)?, refused);
+    }
+    assert_eq!(rt; shown(alloc, core)?.as_str(), "|ab|cd");
+    assert_eq!(rt;
+        remove(alloc, core, place(0, 0), place(1, 2))?,
+        edited(3, 3)
+    );
+    assert_eq!(rt; shown(alloc, core)?.as_str(), "|");
+    Ok(())
+}
+
+#[test]
 fn an_insertion_of_nothing_makes_no_revision(rt: HostRuntime) -> Result<(), Fail> {
     let alloc = rt.alloc();
     let mut core = Core::new(alloc, load(alloc, b"")?, 0)?;
-    let step = insert(alloc, &mut core, 0, b"")?;
-    assert_eq!(rt;
-        step.reply,
-        Reply::Edited {
-            steps: 0,
-            revision: 0,
-            depth: 0
-        }
-    );
-    assert!(rt; step.made.is_empty());
+    steps_of_an_insertion_of_nothing_makes_no_revision(&rt, alloc, &mut core)
+}
+
+fn steps_of_an_insertion_of_nothing_makes_no_revision(
+    rt: &impl Abort,
+    alloc: Global,
+    core: &mut Core,
+) -> Result<(), Fail> {
+    assert_eq!(rt; insert(alloc, core, place(0, 0), b"")?, edited(0, 0));
+    assert_eq!(rt; core.undo_counts(), (0, 0));
     assert_eq!(rt; core.journal().len(), 1);
     Ok(())
 }
@@ -91,26 +167,156 @@ fn an_insertion_of_nothing_makes_no_revision(rt: HostRuntime) -> Result<(), Fail
 fn no_revision_is_made_past_the_limit(rt: HostRuntime) -> Result<(), Fail> {
     let alloc = rt.alloc();
     let mut core = Core::new(alloc, load(alloc, b"")?, 2)?;
-    let table = [
-        Reply::Edited {
-            steps: 1,
-            revision: 1,
-            depth: 0,
-        },
-        Reply::Edited {
-            steps: 1,
-            revision: 2,
-            depth: 0,
-        },
-        Reply::Refused(Refusal::RevisionsFull { revision: 2 }),
-    ];
-    for reply in table {
-        let step = Primitive::Wrap { line: 0, column: 0 };
-        let answer = core.step(alloc, 0, Request::Cmd(Command::Put { step }))?;
-        assert_eq!(rt; answer.reply, reply);
-    }
-    assert_eq!(rt; shown(alloc, &core)?.as_str(), "|||");
-    assert_eq!(rt; core.journal().len(), 3);
+    steps_of_no_revision_is_made_past_the_limit(&rt, alloc, &mut core)
+}
+
+fn steps_of_no_revision_is_made_past_the_limit(
+    rt: &impl Abort,
+    alloc: Global,
+    core: &mut Core,
+) -> Result<(), Fail> {
+    let full = Reply::Refused(Refusal::RevisionsFull { revision: 2 });
+    assert_eq!(rt; wrap(alloc, core)?, edited(1, 1));
+    assert_eq!(rt; wrap(alloc, core)?, edited(1, 2));
+    assert_eq!(rt; wrap(alloc, core)?, full);
+    assert_eq!(rt; ask(alloc, core, Command::Undo)?.reply, full);
+    assert_eq!(rt; shown(alloc, core)?.as_str(), "|||");
+    assert_eq!(rt; core.undo_counts(), (2, 0));
+    assert_eq!(rt; core.journal().len(), 4);
+    Ok(())
+}
+
+#[test]
+fn a_text_of_two_lines_is_inserted(rt: HostRuntime) -> Result<(), Fail> {
+    let alloc = rt.alloc();
+    let mut core = Core::new(alloc, load(alloc, b"xy")?, 8)?;
+    steps_of_a_text_of_two_lines_is_inserted(&rt, alloc, &mut core)
+}
+
+fn steps_of_a_text_of_two_lines_is_inserted(
+    rt: &impl Abort,
+    alloc: Global,
+    core: &mut Core,
+) -> Result<(), Fail> {
+    assert_eq!(rt; insert(alloc, core, place(0, 1), b"a\nb")?, edited(3, 3));
+    assert_eq!(rt; shown(alloc, core)?.as_str(), "|xa|by");
+    Ok(())
+}
+
+#[test]
+fn a_span_over_three_lines_is_replaced(rt: HostRuntime) -> Result<(), Fail> {
+    let alloc = rt.alloc();
+    let mut core = Core::new(alloc, load(alloc, b"a\nb\nc")?, 99)?;
+    steps_of_a_span_over_three_lines_is_replaced(&rt, alloc, &mut core)
+}
+
+fn steps_of_a_span_over_three_lines_is_replaced(
+    rt: &impl Abort,
+    alloc: Global,
+    core: &mut Core,
+) -> Result<(), Fail> {
+    let change = Change::Replace {
+        span: Span::new(place(0, 0), place(2, 0)),
+        text: load(alloc, b"z")?.text,
+    };
+    let step = ask(alloc, core, Command::Edit { change })?;
+    assert_eq!(rt; step.reply, edited(5, 5));
+    assert_eq!(rt; step.made.len(), 5);
+    assert_eq!(rt; shown(alloc, core)?.as_str(), "|zc");
+    assert_eq!(rt; ask(alloc, core, Command::Undo)?.reply, edited(5, 10));
+    assert_eq!(rt; shown(alloc, core)?.as_str(), "|a|b|c");
+    assert_eq!(rt; ask(alloc, core, Command::Redo)?.reply, edited(5, 15));
+    assert_eq!(rt; shown(alloc, core)?.as_str(), "|zc");
+    Ok(())
+}
+
+#[test]
+fn a_change_is_undone_and_redone_once(rt: HostRuntime) -> Result<(), Fail> {
+    let alloc = rt.alloc();
+    let mut core = Core::new(alloc, load(alloc, b"ab")?, 8)?;
+    steps_of_a_change_is_undone_and_redone_once(&rt, alloc, &mut core)
+}
+
+fn steps_of_a_change_is_undone_and_redone_once(
+    rt: &impl Abort,
+    alloc: Global,
+    core: &mut Core,
+) -> Result<(), Fail> {
+    let nothing = Reply::Refused(Refusal::Nothing);
+    assert_eq!(rt;
+        remove(alloc, core, place(0, 0), place(0, 1))?,
+        edited(1, 1)
+    );
+    assert_eq!(rt; ask(alloc, core, Command::Undo)?.reply, edited(1, 2));
+    assert_eq!(rt; shown(alloc, core)?.as_str(), "|ab");
+    assert_eq!(rt; core.undo_counts(), (0, 1));
+    assert_eq!(rt; ask(alloc, core, Command::Undo)?.reply, nothing);
+    assert_eq!(rt; ask(alloc, core, Command::Redo)?.reply, edited(1, 3));
+    assert_eq!(rt; ask(alloc, core, Command::Redo)?.reply, nothing);
+    assert_eq!(rt; shown(alloc, core)?.as_str(), "|b");
+    assert_eq!(rt; core.undo_counts(), (1, 0));
+    Ok(())
+}
+
+#[test]
+fn nothing_is_undone_in_an_open_transaction(rt: HostRuntime) -> Result<(), Fail> {
+    let alloc = rt.alloc();
+    let mut core = Core::new(alloc, load(alloc, b"")?, 8)?;
+    steps_of_nothing_is_undone_in_an_open_transaction(&rt, alloc, &mut core)
+}
+
+fn steps_of_nothing_is_undone_in_an_open_transaction(
+    rt: &impl Abort,
+    alloc: Global,
+    core: &mut Core,
+) -> Result<(), Fail> {
+    let nothing = Reply::Refused(Refusal::Nothing);
+    let inside = Reply::Edited {
+        steps: 1,
+        revision: 1,
+        depth: 1,
+    };
+    let open = Reply::Refused(Refusal::StillOpen { depth: 1 });
+    let not_open = Reply::Refused(Refusal::NotOpen);
+    assert_eq!(rt; ask(alloc, core, Command::Undo)?.reply, nothing);
+    assert_eq!(rt;
+        ask(alloc, core, Command::Begin)?.reply,
+        Reply::Depth { depth: 1 }
+    );
+    assert_eq!(rt; insert(alloc, core, place(0, 0), b"a")?, inside);
+    assert_eq!(rt; core.depth(), 1);
+    assert_eq!(rt; ask(alloc, core, Command::Undo)?.reply, open);
+    assert_eq!(rt;
+        ask(alloc, core, Command::End)?.reply,
+        Reply::Depth { depth: 0 }
+    );
+    assert_eq!(rt; ask(alloc, core, Command::End)?.reply, not_open);
+    assert_eq!(rt; core.undo_counts(), (1, 0));
+    assert_eq!(rt; core.depth(), 0);
+    Ok(())
+}
+
+#[test]
+fn only_a_group_that_is_kept_empties_what_may_be_redone(rt: HostRuntime) -> Result<(), Fail> {
+    let alloc = rt.alloc();
+    let mut core = Core::new(alloc, load(alloc, b"ab")?, 8)?;
+    steps_of_only_a_group_that_is_kept_empties_what_may_be_redone(&rt, alloc, &mut core)
+}
+
+fn steps_of_only_a_group_that_is_kept_empties_what_may_be_redone(
+    rt: &impl Abort,
+    alloc: Global,
+    core: &mut Core,
+) -> Result<(), Fail> {
+    assert_eq!(rt; wrap(alloc, core)?, edited(1, 1));
+    assert_eq!(rt; ask(alloc, core, Command::Undo)?.reply, edited(1, 2));
+    let _ = ask(alloc, core, Command::Begin)?;
+    let _ = ask(alloc, core, Command::End)?;
+    assert_eq!(rt; insert(alloc, core, place(0, 0), b"")?, edited(0, 2));
+    assert_eq!(rt; core.undo_counts(), (0, 1));
+    assert_eq!(rt; insert(alloc, core, place(0, 0), b"x")?, edited(1, 3));
+    assert_eq!(rt; core.undo_counts(), (1, 0));
+    assert_eq!(rt; shown(alloc, core)?.as_str(), "|xab");
     Ok(())
 }
 

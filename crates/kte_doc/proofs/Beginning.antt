@@ -5,8 +5,8 @@ use Rattle.std.specs.FinMap.{get, empty, get-empty}
 use Rattle.kte_ranges.specs.declared.info.RangeInfo.{RangeInfo}
 use Rattle.kte_ranges.specs.Table.{Ranges}
 use Rattle.kte_ranges.specs.Cursors.{Hung}
-use Rattle.kte_doc.specs.Standings.{Standing, Standings}
-use Rattle.kte_doc.specs.Documents.{Document, CameBy}
+use Rattle.kte_doc.specs.Standings.{Standings}
+use Rattle.kte_doc.specs.Documents.{CameBy}
 use Rattle.kte_doc.specs.Inside.{standings_of, CursorsFit}
 use Rattle.kte_doc.proofs.Maps.{standings_of-empty}
 

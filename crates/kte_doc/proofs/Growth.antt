@@ -16,7 +16,7 @@ use Rattle.kte_place.specs.declared.entry.EntryKind.TheVariants as kind
 use Rattle.kte_place.specs.Entry.{carry, carry_by}
 use Rattle.kte_buffer.specs.Entries.{entry}
 use Rattle.kte_buffer.proofs.CallerLemmas.{carried_within}
-use Rattle.kte_doc.specs.Inside.{IsWithin, farthest_at}
+use Rattle.kte_doc.specs.Within.{IsWithin, farthest_at}
 
 -- no line has more units than the text
 length-units : (text : List (List ℕ)) (n : ℕ) → n < length text → length (line_at text n) ≤ units_of text

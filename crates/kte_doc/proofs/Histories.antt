@@ -1,9 +1,8 @@
 -- What locking, unlocking and landing do to a document that came by a trail.
-use Rattle.std.proofs.Common.{◌≡◌, ℕ, ◌+◌, ◌<◌, ◌≤◌, ◌==◌, ◌||◌, nat_le, if◌then◌else◌, Result, Ok, Err, Bool, true, false, List, [], ◌∷◌, ◌++◌, length, drop, All, IsTrue, Option, inl, inr, refl, sym, ap, ◌∙◌, subst, arith}
+use Rattle.std.proofs.Common.{◌≡◌, ℕ, ◌+◌, ◌<◌, ◌≤◌, nat_le, if◌then◌else◌, Result, Ok, Err, IfOk, sym, subst, Bool, true, false, List, [], ◌∷◌, ◌++◌, length, drop, All, IsTrue, Option, inl, inr, refl, ap, ◌∙◌, arith}
 use Rattle.std.proofs.lemmas.Bool.{cases_eq}
 use Rattle.std.proofs.lemmas.Bool.Decides.{nat_tests}
 use Rattle.std.proofs.lemmas.List.Elements.{All-head, All-tail}
-use Rattle.kte_text.specs.Primitives.{after_all}
 use Rattle.kte_text.specs.declared.primitive.Primitive.{Primitive}
 use Rattle.kte_place.specs.declared.span.Expand.{Expand}
 use Rattle.kte_place.specs.declared.span.Empty.{Empty}
@@ -79,14 +78,16 @@ locked_within (lock ∷ locks) most revision all locked =
           (grind (arith, nat_tests))
     ]
 
--- what a landing that was not refused gives
-pub landed_ok : (may : Bool) (given landed : Option Ends) (refused : NotLocked)
-    → (Ok given) ≡ (if may then Ok landed else Err refused) → (may ≡ true) × (given ≡ landed)
-landed_ok true given landed refused is = (refl, cc)
-landed_ok false given landed refused is = absurd (cc)
+-- what a landing gives that is not refused
+pub landed_ok : (may : Bool) (r : Result (Option Ends) NotLocked) (landed stands : Option Ends) (refused : NotLocked)
+    → r ≡ (if may then Ok landed else Err refused) → (may ≡ true → landed ≡ stands) → IfOk r (λ span. span ≡ stands)
+landed_ok true r landed stands refused is same =
+    subst (λ (r : Result (Option Ends) NotLocked). IfOk r (λ span. span ≡ stands)) (sym is) (same refl)
+landed_ok false r landed stands refused is same =
+    subst (λ (r : Result (Option Ends) NotLocked). IfOk r (λ span. span ≡ stands)) (sym is) tt
 
 -- a revision from which one can land is one of the trail
-can_land_within : (loaded : List (List ℕ)) (trail : List Primitive) (document : Document) (revision : ℕ) → CameBy loaded trail document
+pub can_land_within : (loaded : List (List ℕ)) (trail : List Primitive) (document : Document) (revision : ℕ) → CameBy loaded trail document
     → IsTrue (can_land (history_of document) revision) → revision ≤ length trail
 can_land_within loaded trail document revision came may =
     let count = length-entries_of trail loaded in

@@ -11,4 +11,6 @@ pub mod Calls
 pub mod Looks
 pub mod Beginning
 pub mod Landing
+pub mod Batches
 pub mod Histories
+pub mod Making

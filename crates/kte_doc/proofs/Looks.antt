@@ -28,7 +28,7 @@ seen_some hung ranges now id is some = by_table (get ranges id) (subst (λ (o : 
   by_table None some = absurd (cc)
   by_table (Some info) some = refl
 
--- what is told of a range is what it is
+-- the information on a range is that of the range
 pub told : (hung : Hung) (ranges : Ranges) (lines farthest : ℕ) (now : Standings) (id : ℕ) → CursorsFit hung ranges lines farthest → standings_of hung ranges ≡ now
     → (o : Option RangeInfo) → get ranges id ≡ o → Tells (get now id) o
 told hung ranges lines farthest now id fit is None there =
@@ -59,7 +59,7 @@ place_is : (o : Option Hanging) (h : Hanging) (p : Place) → o ≡ Some h → p
 place_is o h p is at = cc
 
 pub span_at : (hung : Hung) (lines farthest : ℕ) (info : RangeInfo) (c : ℕ × ℕ) (span : Ends) (start end : Place) → info.cursors ≡ Some c
-    → HangAt hung lines farthest info.expand c span → place_of (get hung c.0) ≡ Some start → place_of (get hung c.1) ≡ Some end
+    → HangAt hung lines farthest info.expand info.empty c span → place_of (get hung c.0) ≡ Some start → place_of (get hung c.1) ≡ Some end
     → ends start end ≡ span
 span_at hung lines farthest info c span start end is at at_start at_end =
     let first = place_is (get hung c.0) _ start at.start at_start in

@@ -13,8 +13,9 @@ use Rattle.kte_buffer.specs.Cursors.{hanging}
 use Rattle.kte_ranges.specs.declared.info.RangeInfo.{RangeInfo}
 use Rattle.kte_ranges.specs.Cursors.{Hung, span_of, ends_at, is_among, holds_cursor}
 use Rattle.kte_place.specs.Place.{IsInReach}
-use Rattle.kte_doc.specs.Standings.{SpanIsInReach}
-use Rattle.kte_doc.specs.Inside.{IsWithin, HangAt}
+use Rattle.kte_place.specs.Ends.{SpanIsInReach}
+use Rattle.kte_doc.specs.Within.{IsWithin, IsSettledWithin}
+use Rattle.kte_doc.specs.Inside.{HangAt}
 
 -- the ends at two cursors
 pub ends_at-both : (hung : Hung) (c : ℕ × ℕ) (a b : Hanging) → get hung c.0 ≡ Some a → get hung c.1 ≡ Some b
@@ -23,7 +24,7 @@ ends_at-both hung c a b at_a at_b = rw (at_a, at_b)
 
 -- a range whose cursors hang at a span stands there
 pub span_of-HangAt : (hung : Hung) (lines farthest : ℕ) (info : RangeInfo) (c : ℕ × ℕ) (span : Ends) → info.cursors ≡ Some c
-    → HangAt hung lines farthest info.expand c span → span_of hung info ≡ Some span
+    → HangAt hung lines farthest info.expand info.empty c span → span_of hung info ≡ Some span
 span_of-HangAt hung lines farthest info c span is at =
     ap (ends_at hung) is ∙ ends_at-both hung c (hanging span.start (start_on info.expand)) (hanging span.end (end_on info.expand)) at.start at.end
 
@@ -54,7 +55,7 @@ cursors_of_held (Some c) n held = (c, refl)
 
 -- the cursors of a range that stands hang
 pub hangs_held : (hung : Hung) (lines farthest : ℕ) (info : RangeInfo) (c : ℕ × ℕ) (span : Ends) (n : ℕ) → info.cursors ≡ Some c
-    → HangAt hung lines farthest info.expand c span → IsTrue (holds_cursor info n) → IsSome (get hung n)
+    → HangAt hung lines farthest info.expand info.empty c span → IsTrue (holds_cursor info n) → IsSome (get hung n)
 hangs_held hung lines farthest info c span n is at held =
     elim (first_or_second c n (ap (λ o. is_among o n) (sym is) ∙ held)) [
       | inl first ↦ subst (λ o. IsSome o) (sym (ap (get hung) first ∙ at.start)) refl
@@ -73,15 +74,22 @@ pub settle_ordered : (a b : Place) (e : Empty) (span : Ends) → settle a b e �
 settle_ordered a b Allow span is = grind (arith, nat_tests)
 settle_ordered a b Void span is = grind (arith, nat_tests)
 
--- what settles within the text is within it
+-- what has settled settles to itself
+pub settle_again : (a b : Place) (e : Empty) (span : Ends) → settle a b e ≡ Some span → settle span.start span.end e ≡ Some span
+settle_again a b Allow span is = grind (arith, nat_tests)
+settle_again a b Void span is = grind (arith, nat_tests)
+
+-- what settles within the text stands within it
 pub settle_within : (lines farthest : ℕ) (a b : Place) (e : Empty) (span : Ends) → settle a b e ≡ Some span
-    → IsWithin lines farthest a → IsWithin lines farthest b → IsWithin lines farthest span.start × IsWithin lines farthest span.end
+    → IsWithin lines farthest a → IsWithin lines farthest b → IsSettledWithin lines farthest e span
 settle_within lines farthest a b e span is at_a at_b =
     let kept = settle_keeps a b e span is in
-    let P : Place → Type 0 = λ p. IsWithin lines farthest p in (
-      subst P (sym kept.0) at_a,
-      elim kept.1 [ inl same ↦ subst P (sym same) at_a | inr same ↦ subst P (sym same) at_b ],
-    )
+    let P : Place → Type 0 = λ p. IsWithin lines farthest p in
+    record {
+      settled = settle_again a b e span is;
+      start_within = subst P (sym kept.0) at_a;
+      end_within = elim kept.1 [ inl same ↦ subst P (sym same) at_a | inr same ↦ subst P (sym same) at_b ];
+    }
 
 -- what settles in reach is in reach
 pub settle_reach : (s t : Ends) (e : Empty) → Some t ≡ settle s.start s.end e → SpanIsInReach s → SpanIsInReach t

@@ -1,7 +1,8 @@
 -- All ranges are carried over an entry, and settle.
-use Rattle.std.proofs.Common.{◌≡◌, ℕ, ◌+◌, ◌<◌, ◌≤◌, ◌^◌, IfSome, Bool, true, false, List, length, Option, None, Some, IsSome, IsTrue, ◌⊎◌, inl, inr, refl, sym, ap, ◌∙◌, subst, arith}
+use Rattle.std.proofs.Common.{◌≡◌, ℕ, ◌+◌, ◌<◌, ◌≤◌, ◌^◌, ◌==◌, IfSome, Bool, true, false, List, length, Option, None, Some, IsSome, IsTrue, ◌⊎◌, inl, inr, refl, sym, ap, ◌∙◌, subst, arith}
 use Rattle.std.specs.Option.{option_map}
 use Rattle.std.specs.FinMap.{get}
+use Rattle.std.specs.List.{Contains, list_any}
 use Rattle.kte_text.specs.Primitives.{misfit, after}
 use Rattle.kte_text.proofs.PrimitiveLemmas.{FitsText-from_misfit}
 use Rattle.kte_text.specs.declared.primitive.Primitive.{Primitive}
@@ -9,23 +10,28 @@ use Rattle.kte_place.specs.declared.place.Place.{Place}
 use Rattle.kte_place.specs.declared.place.OnInsert.{OnInsert}
 use Rattle.kte_place.specs.declared.place.TheConstants.{MAX_COLUMN}
 use Rattle.kte_place.specs.declared.entry.Entry.{Entry}
-use Rattle.kte_place.specs.declared.entry.EntryKind.TheVariants.{Unwrap}
+use Rattle.kte_place.specs.declared.entry.EntryKind.{EntryKind}
+use Rattle.kte_place.specs.declared.entry.EntryKind.TheVariants.{Wrap, Unwrap, Insert, Remove}
 use Rattle.kte_place.specs.Ends.{Ends}
 use Rattle.kte_place.specs.Place.{is_before}
 use Rattle.kte_place.specs.Span.{ends, settle, start_on, end_on, carry_span}
 use Rattle.kte_place.specs.Entry.{carry}
 use Rattle.kte_place.specs.Cursors.{Hanging, cursor_at}
 use Rattle.kte_buffer.specs.Cursors.{hanging, carried}
-use Rattle.kte_buffer.specs.Entries.{entry}
+use Rattle.kte_buffer.specs.Entries.{entry, lines_by, is_touched}
 use Rattle.kte_buffer.specs.Buffer.{is_home, ColumnsFit}
 use Rattle.kte_buffer.specs.declared.buffer.Ready.TheVariants.{ToRehome}
 use Rattle.kte_buffer.proofs.CallerLemmas.{IsWithin-entry}
 use Rattle.kte_ranges.specs.declared.info.RangeInfo.{RangeInfo}
 use Rattle.kte_ranges.specs.Table.{Ranges, AllInfos}
 use Rattle.kte_ranges.specs.Cursors.{Hung, span_of, ends_at, is_among, holds_cursor, IsFree, CursorsHang, CursorsApart, StartsAreReady}
+use Rattle.kte_ranges.specs.Laws.{lines_touched}
+use Rattle.kte_ranges.specs.Starts.{IsNearOrSettled}
+use Rattle.kte_ranges.proofs.Untouched.{untouched_stays_settled}
 use Rattle.kte_ranges.specs.Settling.{settled, settled_span, settled_info, cursors_kept, sent_to, CursorsFollow}
 use Rattle.kte_doc.specs.Standings.{moved_over}
-use Rattle.kte_doc.specs.Inside.{standing_of, standings_of, IsWithin, HangAt, CursorsFit, farthest_at}
+use Rattle.kte_doc.specs.Within.{IsWithin, farthest_at}
+use Rattle.kte_doc.specs.Inside.{standing_of, standings_of, HangAt, CursorsFit}
 use Rattle.kte_doc.proofs.Crossing.{crossed}
 use Rattle.kte_doc.proofs.Growth.{IsWithin-carried}
 use Rattle.kte_doc.proofs.Maps.{get-standings_of}
@@ -61,6 +67,14 @@ kept_by : (o : Option Ends) (cursors : Option (ℕ × ℕ)) (c : ℕ × ℕ) →
 kept_by None cursors c is = absurd (cc)
 kept_by (Some span) cursors c is = (span, (refl, is))
 
+-- the touched lines are those that the law of settled ranges speaks of
+touched_alike : (k : EntryKind) (line n : ℕ)
+    → list_any (λ m. m == n) (lines_by k line) ≡ list_any (λ m. m == n) (lines_touched k line)
+touched_alike Wrap line n = refl
+touched_alike Unwrap line n = refl
+touched_alike Insert line n = refl
+touched_alike Remove line n = refl
+
 -- The entry moves places of a text of some lines to places of the text after it, and the cursors of the ranges were carried over it
 pub record Carries (e : Entry) (lines lines' farthest farthest' : ℕ) (old now : Hung) (ranges : Ranges) : Type 0 where
   pub joined : e.kind ≡ Unwrap → 1 ≤ e.line
@@ -71,22 +85,22 @@ pub record Carries (e : Entry) (lines lines' farthest farthest' : ℕ) (old now 
 
 module _ (e : Entry) (lines lines' farthest farthest' : ℕ) (old now : Hung) (ranges : Ranges)
     (carries : Carries e lines lines' farthest farthest' old now ranges) where
-  start_now : (info : RangeInfo) (c : ℕ × ℕ) (span : Ends) → HangAt old lines farthest info.expand c span
+  start_now : (info : RangeInfo) (c : ℕ × ℕ) (span : Ends) → HangAt old lines farthest info.expand info.empty c span
       → get now c.0 ≡ Some (hanging (start_after e info span) (start_on info.expand))
   start_now info c span at = carries.all c.0 ∙ ap (option_map (carried e)) at.start
 
-  end_now : (info : RangeInfo) (c : ℕ × ℕ) (span : Ends) → HangAt old lines farthest info.expand c span
+  end_now : (info : RangeInfo) (c : ℕ × ℕ) (span : Ends) → HangAt old lines farthest info.expand info.empty c span
       → get now c.1 ≡ Some (hanging (end_after e info span) (end_on info.expand))
   end_now info c span at = carries.all c.1 ∙ ap (option_map (carried e)) at.end
 
   -- a range stands between the carried ends
-  span_now : (info : RangeInfo) (c : ℕ × ℕ) (span : Ends) → info.cursors ≡ Some c → HangAt old lines farthest info.expand c span
+  span_now : (info : RangeInfo) (c : ℕ × ℕ) (span : Ends) → info.cursors ≡ Some c → HangAt old lines farthest info.expand info.empty c span
       → span_of now info ≡ Some (ends (start_after e info span) (end_after e info span))
   span_now info c span is at =
       ap (ends_at now) is ∙ ends_at-both now c _ _ (start_now info c span at) (end_now info c span at)
 
   -- so it settles to the span carried over the entry
-  settled_now : (info : RangeInfo) (c : ℕ × ℕ) (span : Ends) → info.cursors ≡ Some c → HangAt old lines farthest info.expand c span
+  settled_now : (info : RangeInfo) (c : ℕ × ℕ) (span : Ends) → info.cursors ≡ Some c → HangAt old lines farthest info.expand info.empty c span
       → settled_span now info ≡ settle (start_after e info span) (end_after e info span) info.empty
   settled_now info c span is at = ap (settled info.empty) (span_now info c span is at)
 
@@ -111,14 +125,34 @@ module _ (e : Entry) (lines lines' farthest farthest' : ℕ) (old now : Hung) (r
       let Is : Ends → Type 0 = λ t. IsTrue (is_before t.end t.start) in
       let Ready : Ends → Type 0 = λ t. IsTrue (is_home (ToRehome e) t.start.line) × (t.start.column ≤ MAX_COLUMN) in
       let over = subst Is (sym same) before in
-      let within = carries.moves at.0.start (start_on info.expand) at.1.start_within in
+      let within = carries.moves at.0.start (start_on info.expand) at.1.stands.start_within in
       subst Ready same (
-        crossed e at.0.start at.0.end (start_on info.expand) (end_on info.expand) carries.joined at.1.ordered over,
+        crossed e at.0.start at.0.end (start_on info.expand) (end_on info.expand) carries.joined
+            (settle_ordered at.0.start at.0.end info.empty at.0 at.1.stands.settled) over,
         omega (arith, within.column, carries.bound),
       )
 
   pub ready_now : StartsAreReady now (is_home (ToRehome e)) ranges
   ready_now id info there s stands before = start_ready id info s info.cursors there refl stands before
+
+  -- each range starts with a listed cursor, or is settled where it stands
+  pub others_now : (near : List ℕ)
+      → ((id : ℕ) → IfSome (get now id) (λ cursor. IsTrue (is_home (ToRehome e) cursor.place.line) → Contains near id))
+      → AllInfos (IsNearOrSettled now near) ranges
+  others_now near lists id info there c is =
+      let at = carries.fit.hang id info c there is in
+      let Listed : Option Hanging → Type 0 = λ o.
+      IfSome o (λ cursor. IsTrue (is_home (ToRehome e) cursor.place.line) → Contains near c.0) in
+      let listed = subst Listed (start_now info c at.0 at.1) (lists c.0) in
+      let start = start_after e info at.0 in
+      elim (tested (is_touched e start.line)) [
+        | inl on ↦ inl (listed on)
+        | inr off ↦
+            let apart = sym (touched_alike e.kind e.line start.line) ∙ off in
+            inr (settled_now info c at.0 is at.1
+            ∙ untouched_stays_settled e at.0 info.expand info.empty carries.joined at.1.stands.settled apart
+            ∙ sym (span_now info c at.0 is at.1))
+      ]
 
   module _ (later : Hung) (ranges' : Ranges)
       (settles : (id : ℕ) → get ranges' id ≡ option_map (settled_info now) (get ranges id))
@@ -128,13 +162,10 @@ module _ (e : Entry) (lines lines' farthest farthest' : ℕ) (old now : Hung) (r
       (apart : CursorsApart ranges') where
     -- a range that settled to a span hangs there
     hang_later : (id : ℕ) (info : RangeInfo) (c : ℕ × ℕ) (span : Ends) → get ranges id ≡ Some info → info.cursors ≡ Some c
-        → settled_span now info ≡ Some span → HangAt later lines' farthest' info.expand c span
+        → settled_span now info ≡ Some span → HangAt later lines' farthest' info.expand info.empty c span
     hang_later id info c span there is settled_to =
         let at = carries.fit.hang id info c there is in
         let settled_by = sym (settled_now info c at.0 is at.1) ∙ settled_to in
-        let within = settle_within lines' farthest' _ _ info.empty span settled_by
-        (carries.moves at.0.start (start_on info.expand) at.1.start_within)
-        (carries.moves at.0.end (end_on info.expand) at.1.end_within) in
         record {
           start = (follow id info there).start c is
               ∙ ap (λ o. sent_to (option_map (λ s. s.start) o) (get now c.0)) settled_to
@@ -142,9 +173,9 @@ module _ (e : Entry) (lines lines' farthest farthest' : ℕ) (old now : Hung) (r
           end = (follow id info there).end c is
               ∙ ap (λ o. sent_to (option_map (λ s. s.end) o) (get now c.1)) settled_to
               ∙ ap (cursor_at span.end) (end_now info c at.0 at.1);
-          ordered = settle_ordered (start_after e info at.0) (end_after e info at.0) info.empty span settled_by;
-          start_within = within.0;
-          end_within = within.1;
+          stands = settle_within lines' farthest' _ _ info.empty span settled_by
+              (carries.moves at.0.start (start_on info.expand) at.1.stands.start_within)
+              (carries.moves at.0.end (end_on info.expand) at.1.stands.end_within);
         }
 
     -- the cursors of one that became invalid are gone
@@ -197,7 +228,7 @@ module _ (e : Entry) (lines lines' farthest farthest' : ℕ) (old now : Hung) (r
       hang = λ id info c there is.
           let was = changed (settled_info now) (get ranges id) (get ranges' id) info (settles id) there in
           let kept = kept_by (settled_span now was.0) was.0.cursors c (ap (λ i. i.cursors) (sym was.1.1) ∙ is) in
-          let At : RangeInfo → Type 0 = λ i. HangAt later lines' farthest' i.expand c kept.0 in
+          let At : RangeInfo → Type 0 = λ i. HangAt later lines' farthest' i.expand i.empty c kept.0 in
           (kept.0, subst At (sym was.1.1) (hang_later id was.0 c kept.0 was.1.0 kept.1.1 kept.1.0));
       held = λ n some. held_later n (get old n) refl some;
     }
@@ -257,6 +288,6 @@ columns_fit hung mid ranges lines farthest bound same fit id =
           let at = fit.hang it.0 it.1.0 c.0 it.1.1.0 c.1 in
           let P : Hanging → Type 0 = λ h. h.place.column ≤ MAX_COLUMN in
           elim (first_or_second c.0 id (ap (λ o. is_among o id) (sym c.1) ∙ it.1.1.1)) [
-            | inl first ↦ subst P (by_some (sym at.1.start ∙ ap (get hung) (sym first) ∙ is)) (omega (arith, at.1.start_within.column))
-            | inr second ↦ subst P (by_some (sym at.1.end ∙ ap (get hung) (sym second) ∙ is)) (omega (arith, at.1.end_within.column))
+            | inl first ↦ subst P (by_some (sym at.1.start ∙ ap (get hung) (sym first) ∙ is)) (omega (arith, at.1.stands.start_within.column))
+            | inr second ↦ subst P (by_some (sym at.1.end ∙ ap (get hung) (sym second) ∙ is)) (omega (arith, at.1.stands.end_within.column))
           ]

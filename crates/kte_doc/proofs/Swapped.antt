@@ -32,7 +32,7 @@ pub record Puts (old new : Ranges) (id : ℕ) (had has : Option RangeInfo) : Typ
 abbrev pub HangsAs : Hung → ℕ → ℕ → Option RangeInfo → Type 0
 HangsAs hung lines farthest has =
     (info : RangeInfo) (c : ℕ × ℕ) → has ≡ Some info → info.cursors ≡ Some c
-    → (c.0 ≢ c.1) × ((span : Ends) × HangAt hung lines farthest info.expand c span)
+    → (c.0 ≢ c.1) × ((span : Ends) × HangAt hung lines farthest info.expand info.empty c span)
 
 -- a test has an answer
 tested : (b : Bool) → (b ≡ true) ⊎ (b ≡ false)
@@ -80,13 +80,11 @@ module _ (hung hung' : Hung) (ranges ranges' : Ranges) (lines farthest id : ℕ)
   stays q info n apart there held = swaps.others n (not_new q info n there held) (not_old q info n apart there held)
 
   still_at : (q : ℕ) (info : RangeInfo) (c : ℕ × ℕ) (span : Ends) → q ≢ id → get ranges q ≡ Some info → info.cursors ≡ Some c
-      → HangAt hung lines farthest info.expand c span → HangAt hung' lines farthest info.expand c span
+      → HangAt hung lines farthest info.expand info.empty c span → HangAt hung' lines farthest info.expand info.empty c span
   still_at q info c span apart there is at = record {
     start = stays q info c.0 apart there (holds_first info c is) ∙ at.start;
     end = stays q info c.1 apart there (holds_second info c is) ∙ at.end;
-    ordered = at.ordered;
-    start_within = at.start_within;
-    end_within = at.end_within;
+    stands = at.stands;
   }
 
   -- the cursors are those of the ranges again

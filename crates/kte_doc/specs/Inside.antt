@@ -1,19 +1,17 @@
 -- How a document keeps what contracts see of it.
-use Rattle.std.specs.Prelude.{◌≡◌, ℕ, ◌+◌, ◌*◌, ◌^◌, ◌<◌, ◌≤◌, length, map, IsSome, IsTrue, Some}
+use Rattle.std.specs.Prelude.{◌≡◌, ℕ, ◌^◌, ◌≤◌, length, map, IsSome, IsTrue, Some}
 use Rattle.std.specs.FinMap.{get, entries, from_sorted}
-use Rattle.kte_place.specs.declared.place.Place.{Place}
 use Rattle.kte_place.specs.declared.span.Expand.{Expand}
+use Rattle.kte_place.specs.declared.span.Empty.{Empty}
 use Rattle.kte_place.specs.Ends.{Ends}
-use Rattle.kte_place.specs.Place.{is_at_or_before}
 use Rattle.kte_place.specs.Span.{start_on, end_on}
 use Rattle.kte_buffer.specs.Cursors.{hanging}
-use Rattle.kte_text.specs.declared.TheConstants.{MAX_SIZE}
 use Rattle.kte_ranges.specs.declared.info.RangeInfo.{RangeInfo}
 use Rattle.kte_ranges.specs.Table.{Ranges}
 use Rattle.kte_ranges.specs.Cursors.{Hung, span_of, holds_cursor, CursorsApart}
 use Rattle.kte_doc.specs.Standings.{Standing, Standings}
 use Rattle.kte_doc.specs.Documents.{Document}
-use Rattle.kte_place.specs.declared.place.TheConstants.{MAX_REACH}
+use Rattle.kte_doc.specs.Within.{farthest_at, IsSettledWithin}
 use Rattle.kte_doc.specs.declared.document.Doc.TheInside.{Inside}
 
 -- a range as its cursors hang
@@ -42,33 +40,28 @@ document_of doc = record {
   kept = doc.history.kept;
 }
 
--- the greatest column at a revision: each primitive moves a place by at most the greatest size
-abbrev pub farthest_at : ℕ → ℕ
-farthest_at revision = MAX_REACH + revision * MAX_SIZE
-
--- a place in a text of so many lines, at no greater column
-pub record IsWithin (lines farthest : ℕ) (place : Place) : Type 0 where
-  pub line : place.line < lines
-  pub column : place.column ≤ farthest
-
--- the two cursors of a range hang at the ends of a span of the text, and do at an insertion what the ends do
-pub record HangAt (hung : Hung) (lines farthest : ℕ) (expand : Expand) (cursors : ℕ × ℕ) (span : Ends) : Type 0 where
+-- the two cursors of a range hang at the ends of a settled span of the text, and do at an insertion
+-- what the ends do
+pub record HangAt (hung : Hung) (lines farthest : ℕ) (expand : Expand) (empty : Empty)
+    (cursors : ℕ × ℕ) (span : Ends) : Type 0 where
   pub start : get hung cursors.0 ≡ Some (hanging span.start (start_on expand))
   pub end : get hung cursors.1 ≡ Some (hanging span.end (end_on expand))
-  pub ordered : IsTrue (is_at_or_before span.start span.end)
-  pub start_within : IsWithin lines farthest span.start
-  pub end_within : IsWithin lines farthest span.end
+  pub stands : IsSettledWithin lines farthest empty span
 
--- the cursors that hang are those of the ranges, no cursor is held twice, and each range's hang at a span
+-- the cursors that hang are those of the ranges, no cursor is held twice, and each range's hang at
+-- a settled span
 pub record CursorsFit (hung : Hung) (ranges : Ranges) (lines farthest : ℕ) : Type 0 where
   pub apart : CursorsApart ranges
-  pub hang : (id : ℕ) (info : RangeInfo) (cursors : ℕ × ℕ) → get ranges id ≡ Some info → info.cursors ≡ Some cursors
-      → (span : Ends) × HangAt hung lines farthest info.expand cursors span
+  pub hang : (id : ℕ) (info : RangeInfo) (cursors : ℕ × ℕ) → get ranges id ≡ Some info
+      → info.cursors ≡ Some cursors
+      → (span : Ends) × HangAt hung lines farthest info.expand info.empty cursors span
   pub held : (n : ℕ) → IsSome (get hung n)
-      → (id : ℕ) × ((info : RangeInfo) × ((get ranges id ≡ Some info) × IsTrue (holds_cursor info n)))
+      → (id : ℕ)
+      × ((info : RangeInfo) × ((get ranges id ≡ Some info) × IsTrue (holds_cursor info n)))
 
 -- no more primitives were made than may be, and the cursors are those of the ranges
 pub record IsSound (doc : Inside) : Type 0 where
   pub within : doc.history.revision ≤ doc.history.limit
   pub small : doc.history.limit ≤ 2 ^ 31
-  pub cursors : CursorsFit doc.buffer.hung doc.ranges.ranges (length doc.buffer.text) (farthest_at doc.history.revision)
+  pub cursors : CursorsFit doc.buffer.hung doc.ranges.ranges (length doc.buffer.text)
+      (farthest_at doc.history.revision)

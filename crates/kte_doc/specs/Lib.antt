@@ -1,6 +1,8 @@
+pub mod Within
 pub mod Standings
 pub mod Trail
 pub mod Hanging
 pub mod Documents
+pub mod Batches
 pub mod Inside
 pub mod Examples

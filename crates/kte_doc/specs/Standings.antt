@@ -1,16 +1,15 @@
--- What contracts see of the ranges of a document (KTextEditor's MovingRange; their numbers are this project's own).
+-- What contracts see of the ranges of a document (KTextEditor's MovingRange; their numbers are this
+-- project's own).
 use Rattle.std.specs.Prelude.{◌≡◌, ℕ, List, length, Option, None, Some, is_some, refl}
 use Rattle.std.specs.Option.{option_map}
 use Rattle.std.specs.List.{filter_map}
 use Rattle.std.specs.Ordering.{nat_cmp}
 use Rattle.std.specs.FinMap.{FinMap, get, entries, from_entries, code}
 use Rattle.std.specs.Coded.{Coded, code_by, coded×, coded_ℕ, coded_option}
-use Rattle.kte_place.specs.declared.place.Place.{Place}
 use Rattle.kte_place.specs.declared.span.Expand.{Expand}
 use Rattle.kte_place.specs.declared.span.Empty.{Empty}
 use Rattle.kte_place.specs.declared.entry.Entry.{Entry}
 use Rattle.kte_place.specs.Ends.{Ends}
-use Rattle.kte_place.specs.Place.{IsInReach}
 use Rattle.kte_place.specs.Span.{made, carry_span}
 use Rattle.kte_place.specs.Codes.{ends_code}
 use Rattle.kte_ranges.specs.declared.info.RangeKind.{RangeKind}
@@ -18,7 +17,8 @@ use Rattle.kte_ranges.specs.declared.info.Origin.{Origin}
 use Rattle.kte_ranges.specs.declared.info.RangeInfo.{RangeInfo}
 use Rattle.kte_ranges.specs.Table.{expand_code, empty_code, kind_code, origin_code}
 
--- a range: what it does at a change, whose it is, where it was made or last set, and where it stands now. `None` is invalid
+-- a range: what it does at a change, whose it is, where it was made or last set, and where it is
+-- now. `None` is invalid
 pub record Standing : Type 0 where
   pub expand : Expand
   pub empty : Empty
@@ -54,9 +54,10 @@ moved_over entry old = record old { span = carry_span entry old.span old.expand 
 
 -- the ranges that are not invalid, by where they stand
 abbrev pub spans_of : Standings → FinMap nat_cmp Ends
-spans_of ranges = from_entries (filter_map (λ e. option_map (λ span. (e.0, span)) e.1.span) (entries ranges))
+spans_of ranges =
+    from_entries (filter_map (λ e. option_map (λ span. (e.0, span)) e.1.span) (entries ranges))
 
--- what is told of a range is what it is, and it has cursors exactly where it is not invalid
+-- an information on a range is that of the range, and it has cursors exactly if it is not invalid
 pub record TellsOf (standing : Standing) (info : RangeInfo) : Type 0 where
   pub expand : info.expand ≡ standing.expand
   pub empty : info.empty ≡ standing.empty
@@ -71,16 +72,12 @@ Tells None (Some info) = ⊥
 Tells (Some standing) None = ⊥
 Tells (Some standing) (Some info) = TellsOf standing info
 
--- a span of which a range may be made
-pub record SpanIsInReach (span : Ends) : Type 0 where
-  pub start : IsInReach span.start
-  pub end : IsInReach span.end
-
 -- a range is stored as the tuple of its fields
 abbrev pub standing_code : Coded Standing
 standing_code =
     code_by ((Expand × Empty) × (RangeKind × (Origin × Option Ends)))
-    (coded× (coded× expand_code empty_code) (coded× kind_code (coded× origin_code (coded_option ends_code))))
+    (coded× (coded× expand_code empty_code)
+    (coded× kind_code (coded× origin_code (coded_option ends_code))))
     (λ s. ((s.expand, s.empty), (s.kind, (s.origin, s.span))))
     (λ t. record { expand = t.0.0; empty = t.0.1; kind = t.1.0; origin = t.1.1.0; span = t.1.1.1 })
     (λ _. refl)

@@ -1,5 +1,6 @@
--- The trail of a document, all primitives since loading, and where a range is after it. The revision
--- is the length of the trail (KTextEditor's moving interface, whose revisions count in the same way).
+-- The trail of a document, all primitives since loading, and where a range is after it. The
+-- revision is the length of the trail (KTextEditor's moving interface, whose revisions count in the
+-- same way).
 use Rattle.std.specs.Prelude.{◌≡◌, ◌≤◌, ◌&&◌, ℕ, List, [], ◌∷◌, length, take, drop, nat_lt, Option, None, Some, if◌then◌else◌}
 use Rattle.kte_text.specs.Primitives.{after, after_all, FitInTurn}
 use Rattle.kte_text.specs.declared.primitive.Primitive.{Primitive}
@@ -21,8 +22,8 @@ abbrev pub entries_of : List Primitive → List (List ℕ) → List Entry
 entries_of [] text = []
 entries_of (primitive ∷ trail) text = entry primitive text ∷ entries_of trail (after primitive text)
 
--- Where a range is after the trail: made in the text at its origin's revision, and then carried over
--- all later entries
+-- Where a range is after the trail: made in the text at its origin's revision, and then carried
+-- over all later entries
 abbrev pub stand : List (List ℕ) → List Primitive → Expand → Empty → Origin → Option Ends
 stand loaded trail expand empty origin =
     carry_all (drop origin.revision (entries_of trail loaded))
@@ -42,5 +43,6 @@ LandsWhereItStands =
     (loaded : List (List ℕ)) (trail : List Primitive) (revision : ℕ) (span : Ends) (expand : Expand)
     (empty : Empty) → FitInTurn trail loaded → revision ≤ length trail
     → in_text (length (after_all trail loaded))
-    (carry_all (drop revision (entries_of trail loaded)) (settle span.start span.end empty) expand empty)
+    (carry_all (drop revision (entries_of trail loaded)) (settle span.start span.end empty) expand
+    empty)
     ≡ stand loaded trail expand empty (record { revision = revision; span = span })

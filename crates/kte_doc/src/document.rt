@@ -1,4 +1,4 @@
-ghost use Rattle.std.specs.Prelude.{◌≡◌, ℕ, ◌+◌, ◌^◌, ◌<◌, ◌≤◌, [], ◌∷◌, ◌++◌, false, length, None, Some, Ok, Err, nat_le, if◌then◌else◌, IfSome, IfOk, IsOk, OnOk, OnErr, IsErrOf};
+ghost use Rattle.std.specs.Prelude.{◌≡◌, ℕ, ◌+◌, ◌^◌, ◌<◌, ◌≤◌, [], ◌∷◌, ◌++◌, false, length, All, IsTrue, IsFalse, None, Some, Ok, Err, nat_le, if◌then◌else◌, IfSome, IfOk, IsOk, OnOk, OnErr, IsErrOf};
 ghost use Rattle.std.specs.Option.{ok_or, option_map};
 ghost use Rattle.std.specs.List.Sorted.{IsStrictlyIncreasing};
 ghost use Rattle.std.specs.FinMap as map;
@@ -9,11 +9,12 @@ ghost use Rattle.kte_history.specs.Locks.{oldest, has_lock, unlocked};
 ghost use Rattle.kte_history.specs.Revisions.{kept_since, can_land, landed};
 ghost use Rattle.kte_ranges.specs.Table.{NumbersBelow};
 
+use crate::batch::{Batch, land, make_all};
 use crate::cursors::{hang, unhang};
-use crate::fault::{DocFault, SetFault};
+use crate::fault::{DocFault, MakeFault, SetFault};
 use kte_buffer::Buffer;
 use kte_history::{History, NotLocked, NotOwned, Owner, RevisionsFull};
-use kte_place::{Cursors, Empty, Entry, Expand, Span, Spanned};
+use kte_place::{Cursors, Empty, Entry, Expand, Place, Span, Spanned, Spans};
 use kte_ranges::{NoRange, Origin, RangeInfo, RangeKind, RangeTable};
 use kte_text::{Lines, Primitive, Text};
 use std::alloc::{AllocError, Global};
@@ -21,10 +22,11 @@ use std::marker::Model;
 
 /// A document: a text that primitives change, and the ranges that move with it.
 ///
-/// Contracts see it as its text, its revision, which is the number of primitives made since loading,
-/// the greatest revision, its ranges by their numbers, and the number that the next range gets.
-/// `CameBy` says that it came from a loaded text by a list of primitives, the trail: then each range
-/// is where they put it. Every call keeps that.
+/// Contracts see it as its text, its revision, which is the number of primitives made since
+/// loading, the greatest revision, its ranges by number, the number that the next range gets, the
+/// locks on revisions, and the entries since the oldest locked one. `CameBy` says that it came from
+/// a loaded text by a list of primitives, the trail: then each range is where they put it. Every
+/// call keeps that.
 #[derive(Drop)]
 pub struct Doc {
     buffer: Buffer,
@@ -47,9 +49,10 @@ impl Model for Doc {
 }
 
 impl Doc {
-    ghost use Rattle.kte_doc.specs.Documents.{CameBy, KeepsTrail, ExtendsTrail, history_of, kept_further};
+    ghost use Rattle.kte_doc.specs.Documents.{CameBy, KeepsTrail, ExtendsTrail, history_of, kept_further, made_of};
     ghost use Rattle.kte_doc.specs.Trail.{in_text, stand};
-    ghost use Rattle.kte_doc.specs.Standings.{SpanIsInReach, Tells, new_range, reset_to, moved_over};
+    ghost use Rattle.kte_place.specs.Ends.{SpanIsInReach};
+    ghost use Rattle.kte_doc.specs.Standings.{Tells, new_range, reset_to, moved_over};
 
     /// Returns the document of a loaded text, at revision 0 and without ranges, whose revision can
     /// rise to `limit`. Fails if out of memory.
@@ -103,7 +106,8 @@ impl Doc {
             × (r ≡ self.old.revision) × (self.old.limit ≤ self.old.revision) }
         ensures misfits { (m : _) → misfit primitive.now self.old.text ≡ Some m
             → result ≡ Err (DocFault.Misfit m) }
-        ensures fills { misfit primitive.now self.old.text ≡ None → self.old.limit ≤ self.old.revision
+        ensures fills { misfit primitive.now self.old.text ≡ None
+            → self.old.limit ≤ self.old.revision
             → result ≡ Err (DocFault.RevisionsFull self.old.revision) }
         ensures err { OnErr result (self.new ≡ self.old) }
     {
@@ -122,13 +126,13 @@ impl Doc {
             return Err(DocFault::NoMemory);
         }
         let entry = self.buffer.apply(primitive);
-        self.ranges.settle(&mut self.buffer);
+        self.ranges.settle_near(&mut self.buffer);
         self.history.add(entry);
         Ok(entry)
     }
 
-    /// Makes a range at a span of the present text, and returns its number. It is invalid at once if
-    /// a line of the span is not in the text, or if the span is empty and the range may not be.
+    /// Makes a range at a span of the present text, and returns its number. It is invalid at once
+    /// if a line of the span is not in the text, or if the span is empty and the range may not be.
     /// Fails if out of memory; then nothing has changed, the next number included.
     pub fn make_range(
         &mut self,
@@ -162,6 +166,56 @@ impl Doc {
             cursors,
         };
         Ok(self.ranges.make(info))
+    }
+
+    /// Makes a range of each of these spans of the text at a revision, in their order, and returns
+    /// the number of the first, or the number that the next range gets if there is no span. Each
+    /// range is where its span lands ([`Doc::land`]): where a range made at that revision would be
+    /// now, or invalid if that one would be.
+    ///
+    /// Fails if the revision is neither locked nor the present one, or if out of memory, with the
+    /// first of these causes. After an error nothing has changed, the next number included.
+    pub fn make_at(
+        &mut self,
+        alloc: Global,
+        revision: u64,
+        spans: &Spans,
+        expand: Expand,
+        empty: Empty,
+        kind: RangeKind,
+    ) -> Result<u64, MakeFault>
+        requires spans { All SpanIsInReach spans.now }
+        requires number { self.old.next + length spans.now ≤ 2 ^ 63 }
+        ensures first { IfOk result (λ id. id ≡ self.old.next) }
+        ensures ok { OnOk result (self.new ≡ record self.old {
+          ranges = self.new.ranges;
+          next = self.old.next + length spans.now;
+        }) }
+        ensures ranges { OnOk result ((id : ℕ) → map.get self.new.ranges id
+            ≡ made_of self.old revision expand empty kind spans.now id) }
+        ensures trail { KeepsTrail self.old self.new }
+
+        // The refusal comes whether there is memory or not, and only if it must.
+        ensures lands { OnOk result (IsTrue (can_land (history_of self.old) revision)) }
+        ensures not_locked { (r : _) (o : _) → IsErrOf result (MakeFault.NotLocked r o)
+            → IsFalse (can_land (history_of self.old) revision)
+            × (r ≡ revision) × (o ≡ oldest self.old.locks) }
+        ensures locked { IsFalse (can_land (history_of self.old) revision)
+            → result ≡ Err (MakeFault.NotLocked revision (oldest self.old.locks)) }
+        ensures err { OnErr result (self.new ≡ self.old) }
+    {
+        self.check_lands(revision)?;
+        self.ranges.reserve(spans.len())?;
+        let batch = Batch {
+            revision,
+            expand,
+            empty,
+            kind,
+        };
+        let infos = batch.hang(alloc, &mut self.buffer, &self.history, spans)?;
+        let first = self.ranges.next_id();
+        make_all(&mut self.ranges, infos.as_slice());
+        Ok(first)
     }
 
     /// Sets a range to a span of the present text, as if it were made there now. Whether it expands
@@ -201,7 +255,8 @@ impl Doc {
     /// Returns where a range is; `None` is an invalid range. Its lines are in the text, its columns
     /// may be beyond the ends of their lines. Fails if there is no such range.
     pub fn range(&self, id: u64) -> Result<Option<Span>, NoRange>
-        ensures span { result ≡ ok_or (option_map (λ range. range.span) (map.get self.now.ranges id))
+        ensures span { result
+            ≡ ok_or (option_map (λ range. range.span) (map.get self.now.ranges id))
             (record { id = id }) }
         ensures lines { IfOk result (λ span. IfSome span
             (λ s. (s.start.line < length self.now.text) × (s.end.line < length self.now.text))) }
@@ -216,7 +271,7 @@ impl Doc {
         Ok(Some(Span { start, end }))
     }
 
-    /// Removes a range. Its number is not used again. Fails if there is no such range.
+    /// Removes a range. Its number is not reused. Fails if there is no such range.
     pub fn drop_range(&mut self, id: u64) -> Result<(), NoRange>
         ensures found { result ≡ ok_or (option_map (λ range. tt) (map.get self.old.ranges id))
             (record { id = id }) }
@@ -230,7 +285,7 @@ impl Doc {
         Ok(())
     }
 
-    /// Returns what a range is, if there is one of this number. It has cursors exactly if it is not
+    /// Returns the range of this number, if there is one. It has cursors exactly if it is not
     /// invalid; their numbers have no meaning to the caller.
     pub fn info(&self, id: u64) -> Option<RangeInfo>
         ensures { Tells (map.get self.now.ranges id) result }
@@ -273,8 +328,8 @@ impl Doc {
         self.history.room(n)
     }
 
-    /// Returns the entries that are kept: those since the oldest locked revision, and none if nothing
-    /// is locked.
+    /// Returns the entries that are kept: those since the oldest locked revision, and none if
+    /// nothing is locked.
     pub fn stored(&self) -> &[Entry]
         ensures { result.now ≡ self.now.kept }
     {
@@ -331,30 +386,25 @@ impl Doc {
             (landed (history_of self.now) revision span expand empty))
             else Err (record { revision = revision; oldest = oldest self.now.locks })) }
     {
-        let landed = self.carried(revision, span, expand, empty)?;
-        Ok(landed)
+        land(&self.buffer, &self.history, revision, span, expand, empty)
     }
 
-    /// Carries a span of the text at a revision over the entries since then, and returns it if its
-    /// lines are in the present text.
-    fn carried(
-        &self,
-        revision: u64,
-        span: Span,
-        expand: Expand,
-        empty: Empty,
-    ) -> Result<Option<Span>, NotLocked>
-        requires { SpanIsInReach span }
-        ensures { result ≡ (if can_land (history_of self.now) revision
-            then Ok (in_text (length self.now.text)
-            (landed (history_of self.now) revision span expand empty))
+    /// Fails if spans of the text at a revision cannot be landed: if the revision is neither locked
+    /// nor the present one. This does not allocate.
+    fn check_lands(&self, revision: u64) -> Result<(), NotLocked>
+        ensures { result ≡ (if can_land (history_of self.now) revision then Ok tt
             else Err (record { revision = revision; oldest = oldest self.now.locks })) }
     {
-        let lines = self.buffer.lines();
-        match self.history.carry_span(revision, span, expand, empty)? {
-            Some(span) if span.start.line < lines && span.end.line < lines => Ok(Some(span)),
-            _ => Ok(None),
-        }
+        let start = Place { line: 0, column: 0 };
+        let nowhere = Span { start, end: start };
+        let expand = Expand {
+            left: false,
+            right: false,
+        };
+        // A range that is void at once is carried over no entry.
+        self.history
+            .carry_span(revision, nowhere, expand, Empty::Void)?;
+        Ok(())
     }
 
     /// Returns a copy of the present text. Fails if out of memory.

@@ -24,7 +24,7 @@ use Rattle.kte_place.specs.declared.place.Place.{Place}
 use Rattle.kte_edit.specs.Steps.{IsChange, change_misfit, misplaced_among, places_of, steps_of, unjoinable_by, without_empty, insertion, removal}
 use Rattle.kte_edit.specs.Parts.{offset, part_of, put_by, replaced}
 use Rattle.kte_edit.specs.declared.change.Change.{Change}
-use Rattle.kte_edit.proofs.AroundLemmas.{line_around}
+use Rattle.kte_text.proofs.AroundLemmas.{line_around}
 use Rattle.kte_edit.proofs.ListLemmas.{after_all-without_empty, after_insertion, after_removal, held}
 use Rattle.kte_edit.proofs.FlatLemmas.{part_replaced, start_of-next}
 use Rattle.kte_edit.proofs.FitLemmas.{Fine, boundary_between, fine_insertion, fine_removal, fine_append}

@@ -64,3 +64,38 @@ first_line = refl
 
 fits : change_misfit (Change.Unwrap 1) (codes "ab" ∷ [] ∷ []) ≡ None
 fits = refl
+
+-- four lines inserted, one of them empty
+four_lines : steps_of (Change.Insert (at 1 1) (codes "a" ∷ [] ∷ codes "bc" ∷ codes "d" ∷ [])) (codes "x" ∷ codes "yz" ∷ [])
+    ≡ Insert 1 1 (codes "a") ∷ Wrap 1 2 ∷ Wrap 2 0 ∷ Insert 3 0 (codes "bc") ∷ Wrap 3 2 ∷ Insert 4 0 (codes "d") ∷ []
+four_lines = refl
+
+-- a removal over five lines: those between go from the last to the first, and one of them is empty
+five_lines : steps_of (Change.Remove (span 0 1 4 1)) (codes "ab" ∷ [] ∷ codes "cde" ∷ codes "f" ∷ codes "gh" ∷ [])
+    ≡ Remove 4 0 1 ∷ Remove 3 0 1 ∷ Unwrap 4 ∷ Remove 2 0 3 ∷ Unwrap 3 ∷ Unwrap 2 ∷ Remove 0 1 1 ∷ Unwrap 1 ∷ []
+five_lines = refl
+
+five_lines_left : after_all (steps_of (Change.Remove (span 0 1 4 1)) (codes "ab" ∷ [] ∷ codes "cde" ∷ codes "f" ∷ codes "gh" ∷ []))
+    (codes "ab" ∷ [] ∷ codes "cde" ∷ codes "f" ∷ codes "gh" ∷ []) ≡ codes "ah" ∷ []
+five_lines_left = refl
+
+-- a line end alone is removed, and replaced by another
+border : steps_of (Change.Remove (span 0 2 1 0)) (codes "ab" ∷ codes "cd" ∷ []) ≡ Unwrap 1 ∷ []
+border = refl
+
+border_again : steps_of (Change.Replace (span 0 2 1 0) ([] ∷ [] ∷ [])) (codes "ab" ∷ codes "cd" ∷ []) ≡ Unwrap 1 ∷ Wrap 0 2 ∷ []
+border_again = refl
+
+-- nothing replaced by nothing is judged too
+nothing_again : steps_of (Change.Replace (span 0 1 0 1) ([] ∷ [])) (codes "ab" ∷ []) ≡ []
+nothing_again = refl
+
+nothing_misplaced : change_misfit (Change.Replace (span 0 3 0 3) ([] ∷ [])) (codes "ab" ∷ []) ≡ Some (NoColumn 0 3)
+nothing_misplaced = refl
+
+-- a pair is split at the end of a span, on its line and on a later one
+end_splits : change_misfit (Change.Remove (span 0 0 0 1)) ((0xD83D ∷ 0xDE00 ∷ []) ∷ []) ≡ Some (SplitsPair 0 1)
+end_splits = refl
+
+later_end_splits : change_misfit (Change.Replace (span 0 0 1 1) (codes "z" ∷ [])) (codes "a" ∷ (0xD83D ∷ 0xDE00 ∷ []) ∷ []) ≡ Some (SplitsPair 1 1)
+later_end_splits = refl

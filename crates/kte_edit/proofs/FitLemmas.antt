@@ -16,7 +16,7 @@ use Rattle.kte_text.proofs.LineLemmas.{lone_parts, IsLine-nil, IsLine-drop}
 use Rattle.kte_text.proofs.PrimitiveLemmas.{after_empty, after_all-append, FitInTurn-append, misfit-from_FitsText, IsText-after, size_of-after_wrap, size_of-after_insert}
 use Rattle.kte_place.specs.Ends.{Ends}
 use Rattle.kte_edit.specs.Steps.{without_empty, further, removed_lines, removal}
-use Rattle.kte_edit.proofs.AroundLemmas.{line_around, wrap_around, insert_around, remove_around, unwrap_around, emptied, take_next}
+use Rattle.kte_text.proofs.AroundLemmas.{line_around, wrap_around, insert_around, remove_around, unwrap_around, emptied, take_next}
 use Rattle.kte_edit.proofs.ListLemmas.{after_all-without_empty, without_empty-append, front_removed, after_removed_lines}
 
 -- the primitives fit in turn, and leave a text

@@ -1,4 +1,3 @@
-pub mod AroundLemmas
 pub mod ListLemmas
 pub mod FlatLemmas
 pub mod FitLemmas

@@ -14,7 +14,7 @@ use Rattle.kte_text.proofs.PrimitiveLemmas.{after_empty, after_all-append}
 use Rattle.kte_text.proofs.FlatLemmas.{set_line}
 use Rattle.kte_place.specs.Ends.{Ends}
 use Rattle.kte_edit.specs.Steps.{without_empty, further, removed_lines, removal}
-use Rattle.kte_edit.proofs.AroundLemmas.{wrap_around, insert_around, remove_around, unwrap_around, emptied, take_next}
+use Rattle.kte_text.proofs.AroundLemmas.{wrap_around, insert_around, remove_around, unwrap_around, emptied, take_next}
 
 -- what inserts or removes nothing may be left out
 pub after_all-without_empty : (primitives : List Primitive) (text : List (List ℕ))

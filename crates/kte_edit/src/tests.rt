@@ -71,6 +71,39 @@ fn a_span_over_three_lines_is_replaced(rt: HostRuntime) -> Result<(), Fail> {
 }
 
 #[test]
+fn each_kind_of_change_has_its_steps(rt: HostRuntime) -> Result<(), Fail> {
+    let alloc = rt.alloc();
+    let text = text_of(alloc, b"ab\nc")?;
+    let span = Span::new(place(0, 0), place(0, 2));
+    let nothing = Span::new(place(0, 1), place(0, 1));
+    let empty = text_of(alloc, b"")?;
+    let table: [(Change, &[(u8, u32, u64, u64)]); 6] = [
+        (Change::Wrap { at: place(0, 1) }, &[(b'w', 0, 1, 0)]),
+        (Change::Unwrap { line: 1 }, &[(b'u', 1, 0, 0)]),
+        (Change::Remove { span }, &[(b'r', 0, 0, 2)]),
+        (
+            Change::Insert {
+                at: place(0, 2),
+                text: empty.copy(alloc)?,
+            },
+            &[],
+        ),
+        (Change::Remove { span: nothing }, &[]),
+        (
+            Change::Replace {
+                span: nothing,
+                text: empty,
+            },
+            &[],
+        ),
+    ];
+    for (change, want) in table {
+        assert!(rt; has_outline(&steps(alloc, &text, &change)?, want));
+    }
+    Ok(())
+}
+
+#[test]
 fn changes_that_do_not_fit_are_refused(rt: HostRuntime) -> Result<(), Fail> {
     let alloc = rt.alloc();
     let text = text_of(alloc, "a\n\u{1F600}".as_bytes())?;

@@ -81,7 +81,7 @@ none_or_some o x n h = cc
 pub some_same : {A : Type 0} (x y : A) → Some x ≡ Some y → x ≡ y
 some_same x y h = cc
 
--- what stands below on the stack does not count
+-- brackets further down on the stack do not matter
 taken_off_below : (s t : List Placed) (u : Placed) (r : List Placed) → taken_off s u ≡ Some r → taken_off (s ++ t) u ≡ Some (r ++ t)
 taken_off_below [] t u r h = cc
 taken_off_below (o ∷ s) t u r h = elim (cases_Bool (closes o.unit u.unit)) [

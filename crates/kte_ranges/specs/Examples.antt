@@ -37,7 +37,8 @@ crossed = insert (insert empty 7 (hanging 5 Move)) 8 (hanging 2 Stay)
 
 -- a cursor, if it hangs, beside others
 abbrev pub with_peg : Hung → ℕ → Bool → Place → Hung
-with_peg hung n hangs place = if hangs then insert hung n (record { place = place; on_insert = Stay }) else hung
+with_peg hung n hangs place =
+    if hangs then insert hung n (record { place = place; on_insert = Stay }) else hung
 
 -- two cursors, of numbers 0 and 1
 abbrev pub pegs : Bool → Place → Bool → Place → Hung

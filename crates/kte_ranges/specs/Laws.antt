@@ -15,7 +15,8 @@ use Rattle.kte_ranges.specs.Table.{Ranges}
 use Rattle.kte_ranges.specs.Cursors.{Hung, holds_cursor, IsFree, Hangs, HoldsTwo, CursorsHang, CursorsApart}
 use Rattle.kte_ranges.specs.Settling.{settled}
 
--- cursors stay apart as a range comes under a number, where its own differ and no range of another number holds them
+-- cursors stay apart as a range comes under a number, where its own differ and no range of another
+-- number holds them
 abbrev pub ComesApart : Type 0
 ComesApart =
     (ranges : Ranges) (id : ℕ) (info : RangeInfo) → CursorsApart ranges → HoldsTwo info
@@ -25,8 +26,8 @@ ComesApart =
 -- cursors hang as a range comes whose cursors hang
 abbrev pub ComesHung : Type 0
 ComesHung =
-    (hung : Hung) (ranges : Ranges) (id : ℕ) (info : RangeInfo) → CursorsHang hung ranges → Hangs hung info
-    → CursorsHang hung (insert ranges id info)
+    (hung : Hung) (ranges : Ranges) (id : ℕ) (info : RangeInfo) → CursorsHang hung ranges
+    → Hangs hung info → CursorsHang hung (insert ranges id info)
 
 -- cursors stay apart as a range goes
 abbrev pub GoesApart : Type 0
@@ -35,12 +36,14 @@ GoesApart = (ranges : Ranges) (id : ℕ) → CursorsApart ranges → CursorsApar
 -- no range holds the cursors of one that went
 abbrev pub GoesFree : Type 0
 GoesFree =
-    (ranges : Ranges) (id n : ℕ) (info : RangeInfo) → CursorsApart ranges → get ranges id ≡ Some info
-    → IsTrue (holds_cursor info n) → IsFree (remove ranges id) n
+    (ranges : Ranges) (id n : ℕ) (info : RangeInfo) → CursorsApart ranges
+    → get ranges id ≡ Some info → IsTrue (holds_cursor info n) → IsFree (remove ranges id) n
 
 -- cursors hang as a range goes
 abbrev pub GoesHung : Type 0
-GoesHung = (hung : Hung) (ranges : Ranges) (id : ℕ) → CursorsHang hung ranges → CursorsHang hung (remove ranges id)
+GoesHung =
+    (hung : Hung) (ranges : Ranges) (id : ℕ) → CursorsHang hung ranges
+    → CursorsHang hung (remove ranges id)
 
 -- what has settled stays as it is
 abbrev pub SettlesOnce : Type 0
@@ -61,7 +64,8 @@ is_touched_by entry line = list_any (λ n. n == line) (lines_touched entry.kind 
 -- a settled range stays settled over an entry after which its start is on no touched line
 abbrev pub UntouchedStaysSettled : Type 0
 UntouchedStaysSettled =
-    (entry : Entry) (s : Ends) (expand : Expand) (empty : Empty) → (entry.kind ≡ Unwrap → 1 ≤ entry.line)
+    (entry : Entry) (s : Ends) (expand : Expand) (empty : Empty)
+    → (entry.kind ≡ Unwrap → 1 ≤ entry.line)
     → settle s.start s.end empty ≡ Some s
     → IsFalse (is_touched_by entry (carry entry s.start (start_on expand)).line)
     → settle (carry entry s.start (start_on expand)) (carry entry s.end (end_on expand)) empty

@@ -1,5 +1,5 @@
--- What becomes of the ranges and of their cursors when they settle: the rule of one range (`kte_place`, after KTextEditor's
--- MovingRange) for each of them.
+-- What becomes of the ranges and of their cursors when they settle: the rule of one range
+-- (`kte_place`, after KTextEditor's MovingRange) for each of them.
 use Rattle.std.specs.Prelude.{◌≡◌, ℕ, Option, None, Some}
 use Rattle.std.specs.Option.{option_map}
 use Rattle.std.specs.FinMap.{get}
@@ -27,15 +27,16 @@ cursors_kept (Some s) cursors = cursors
 
 -- the range after it settled: it is the same, but that it has no cursors where it became invalid
 abbrev pub settled_info : Hung → RangeInfo → RangeInfo
-settled_info hung info = record info { cursors = cursors_kept (settled_span hung info) info.cursors }
+settled_info hung info =
+    record info { cursors = cursors_kept (settled_span hung info) info.cursors }
 
 -- a cursor that goes to a place, or is taken out where there is none
 abbrev pub sent_to : Option Place → Option Hanging → Option Hanging
 sent_to None h = None
 sent_to (Some place) h = cursor_at place h
 
--- a range's cursors, if it has any, go to the ends of what it settles to, and keep their behaviour; they are taken out
--- where it becomes invalid
+-- a range's cursors, if it has any, go to the ends of what it settles to, and keep their behaviour;
+-- they are taken out where it becomes invalid
 pub record CursorsFollow (old new : Hung) (info : RangeInfo) : Type 0 where
   pub start : (c : ℕ × ℕ) → info.cursors ≡ Some c
       → get new c.0 ≡ sent_to (option_map (λ s. s.start) (settled_span old info)) (get old c.0)

@@ -34,4 +34,5 @@ AreLed starts rows = starts.far ≡ false → All (LeadTo starts.ids.items) rows
 -- the range is invalid, or starts with a cursor of the list, or is settled where it stands
 abbrev pub IsNearOrSettled : Hung → List ℕ → RangeInfo → Type 0
 IsNearOrSettled hung near info =
-    (c : ℕ × ℕ) → info.cursors ≡ Some c → Contains near c.0 ⊎ (settled_span hung info ≡ span_of hung info)
+    (c : ℕ × ℕ) → info.cursors ≡ Some c
+    → Contains near c.0 ⊎ (settled_span hung info ≡ span_of hung info)

@@ -80,7 +80,9 @@ kind_of-kind_number (Job job) = refl
 
 -- a kind is stored as its number
 abbrev pub kind_code : Coded RangeKind
-kind_code = code_by (Option (Option ℕ)) (coded_option (coded_option coded_ℕ)) kind_number kind_of kind_of-kind_number
+kind_code =
+    code_by (Option (Option ℕ)) (coded_option (coded_option coded_ℕ)) kind_number kind_of
+    kind_of-kind_number
 
 -- an origin is stored as its revision and its span
 abbrev pub origin_code : Coded Origin
@@ -92,13 +94,21 @@ origin_code =
 abbrev pub info_code : Coded RangeInfo
 info_code =
     code_by ((Expand × Empty) × (RangeKind × (Origin × Option (ℕ × ℕ))))
-    (coded× (coded× expand_code empty_code) (coded× kind_code (coded× origin_code (coded_option (coded× coded_ℕ coded_ℕ)))))
+    (coded× (coded× expand_code empty_code) (coded× kind_code (coded× origin_code
+    (coded_option (coded× coded_ℕ coded_ℕ)))))
     (λ i. ((i.expand, i.empty), (i.kind, (i.origin, i.cursors))))
-    (λ t. record { expand = t.0.0; empty = t.0.1; kind = t.1.0; origin = t.1.1.0; cursors = t.1.1.1 })
+    (λ t. record {
+      expand = t.0.0;
+      empty = t.0.1;
+      kind = t.1.0;
+      origin = t.1.1.0;
+      cursors = t.1.1.1;
+    })
     (λ _. refl)
 
 -- a table is stored as the tuple of its fields
 abbrev pub table_code : Coded Table
 table_code =
     code_by (Ranges × (ℕ × ℕ)) (coded× (code coded_ℕ info_code) (coded× coded_ℕ coded_ℕ))
-    (λ t. (t.ranges, (t.next, t.room))) (λ t. record { ranges = t.0; next = t.1.0; room = t.1.1 }) (λ _. refl)
+    (λ t. (t.ranges, (t.next, t.room)))
+    (λ t. record { ranges = t.0; next = t.1.0; room = t.1.1 }) (λ _. refl)

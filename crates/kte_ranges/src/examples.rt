@@ -1,4 +1,5 @@
-//! Worked examples of the definitions, proved by computation. Each function does nothing: its contract is the examples.
+//! Worked examples of the definitions, proved by computation. Each function does nothing: its
+//! contract is the examples.
 ghost use Rattle.std.specs.Prelude.{◌≡◌, true, false, Some, None};
 ghost use Rattle.kte_place.specs.declared.place.OnInsert.TheVariants.{Move};
 ghost use Rattle.kte_place.specs.declared.span.Empty.TheVariants.{Allow, Void};
@@ -7,7 +8,7 @@ ghost use Rattle.kte_ranges.specs.Cursors.{holds_cursor, span_of};
 ghost use Rattle.kte_ranges.specs.Settling.{settled, settled_span, settled_info, sent_to};
 ghost use Rattle.kte_ranges.specs.Examples.{on_line, hanging, range, crossed};
 
-/// Ends that crossed, ends that met, ends in order, and no ends.
+/// Settling of ends that crossed, that met, that are in order, and of an invalid range.
 pub fn settling()
     ensures crossed { settled Allow (Some (on_line 5 2)) ≡ Some (on_line 5 5) }
     ensures crossed_void { settled Void (Some (on_line 5 2)) ≡ None }
@@ -17,7 +18,7 @@ pub fn settling()
     ensures invalid { settled Allow None ≡ None }
 {}
 
-/// The cursors of a range, and where one goes.
+/// The cursors of a range, and a cursor that is moved or taken out.
 pub fn cursors()
     ensures held { holds_cursor (range Allow (Some (7, 8))) 8 ≡ true }
     ensures free { holds_cursor (range Allow (Some (7, 8))) 9 ≡ false }
@@ -26,7 +27,7 @@ pub fn cursors()
     ensures taken_out { sent_to None (Some (hanging 2 Move)) ≡ None }
 {}
 
-/// A range whose end stands before its start.
+/// A range whose end is before its start.
 pub fn standing()
     ensures span { span_of crossed (range Allow (Some (7, 8))) ≡ Some (on_line 5 2) }
     ensures lost { span_of crossed (range Allow (Some (7, 9))) ≡ None }

@@ -22,27 +22,27 @@ pub enum RangeKind {
 pub struct Origin {
     /// The revision of the text that the span is of.
     pub revision: u64,
-    /// As it was asked for, before it settled.
+    /// The span as it was passed, before it settled.
     pub span: Span,
 }
 
 /// What a range is.
 #[derive(Clone, Copy, Debug, PartialEq, Eq, Hash)]
 pub struct RangeInfo {
-    /// Whether it grows by what is inserted right at its ends.
+    /// Whether it takes in text that is inserted exactly at its ends.
     pub expand: Expand,
-    /// What becomes of it when nothing is left in it.
+    /// What happens if it becomes empty.
     pub empty: Empty,
     /// Whose it is.
     pub kind: RangeKind,
     /// Where it was made or last set.
     pub origin: Origin,
-    /// The numbers of the cursors at its start and at its end. `None` where it is invalid.
+    /// The numbers of the cursors at its start and at its end, or `None` if it is invalid.
     pub cursors: Option<(u64, u64)>,
 }
 
 impl RangeInfo {
-    /// Whether the range starts with the cursor of this number.
+    /// Returns whether the range starts with the cursor of this number.
     pub(crate) fn starts_with(&self, cursor: u64) -> bool
         ensures { result ≡ starts_with self.now cursor }
     {
@@ -52,7 +52,7 @@ impl RangeInfo {
         }
     }
 
-    /// Brings the range in order after its cursors have moved. Other cursors stay.
+    /// Settles the range after its cursors have moved. Other cursors are unchanged.
     pub(crate) fn settle<C: Cursors>(&mut self, cursors: &mut C)
         requires hang { Hangs (C.hung cursors.old) self.old }
         requires two { HoldsTwo self.old }

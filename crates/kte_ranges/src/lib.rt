@@ -1,14 +1,18 @@
-//! The ranges of a text, each under a number: what each is, where it was made, and which two cursors hold its ends. The
-//! cursors hang elsewhere ([`kte_place::Cursors`]); a range without them is invalid.
+//! A table of the ranges of a text, by number. A range consists of its behaviour and kind, of where
+//! it was made or last set, and of the numbers of the two cursors at its ends, which are kept
+//! elsewhere ([`kte_place::Cursors`]). A range without cursors is invalid.
 //!
-//! Numbers rise from 1 and are never used again. [`RangeTable::settle`] brings every range in order after its cursors
-//! have moved, and takes out exactly the cursors of those ranges that become invalid.
+//! Numbers start at 1, increase, and are not reused. After cursors have moved,
+//! [`RangeTable::settle`] restores start ≤ end in every range or invalidates it, by the rules of
+//! KTextEditor's MovingRange. [`RangeTable::settle_near`] has the same result and looks only at the
+//! ranges that start on the lines that were last touched.
 //!
-//! - `info`: what a range is, and how one settles
-//! - `rows`: the ranges as a list in the order of their numbers
-//! - `starts`: the index from cursors to the ranges that start with them
-//! - `table`: the table and its calls
-//! - `laws`, `examples`: laws, and worked examples of the definitions
+//! - `info`: a range, and how it settles
+//! - `rows`: the ranges in the order of their numbers
+//! - `starts`: an index from cursors to the ranges that start with them
+//! - `table`: the table
+//! - `laws`: laws of tables and of settling
+//! - `examples`: worked examples of the definitions
 #![tactic(auto)]
 
 pub use info::{Origin, RangeInfo, RangeKind};

@@ -10,7 +10,8 @@ use crate::info::RangeInfo;
 use crate::starts::Starts;
 use kte_place::Cursors;
 
-/// Where the row with this number stands, of rows in the order of their numbers.
+/// Returns the index of the row of this number, if there is one. The rows are in the order of their
+/// numbers.
 pub(crate) fn position(rows: &[(u64, RangeInfo)], id: u64) -> Option<usize>
     requires { IsRising rows.now }
     ensures found { IfSome result (IsAt rows.now id) }
@@ -19,7 +20,7 @@ pub(crate) fn position(rows: &[(u64, RangeInfo)], id: u64) -> Option<usize>
     rows.binary_search_by_key(&id, |row| row.0).ok()
 }
 
-/// Brings each row's range in order after its cursors have moved. Other cursors stay.
+/// Settles the range of each row after its cursors have moved. Other cursors are unchanged.
 pub(crate) fn settle_rows<C: Cursors>(rows: &mut [(u64, RangeInfo)], cursors: &mut C)
     requires hang { All (λ row. Hangs (C.hung cursors.old) row.1) rows.old }
     requires two { All (λ row. HoldsTwo row.1) rows.old }
@@ -40,8 +41,8 @@ pub(crate) fn settle_rows<C: Cursors>(rows: &mut [(u64, RangeInfo)], cursors: &m
     }
 }
 
-/// Settles each row's range whose start is among the cursors on the lines that were last touched.
-/// Every other row's range is settled where it stands. Other cursors stay.
+/// Settles the ranges that start with a cursor on the lines that were last touched, where all other
+/// ranges are settled. Other cursors are unchanged.
 pub(crate) fn settle_near<C: Cursors>(
     rows: &mut [(u64, RangeInfo)],
     starts: &Starts,

@@ -8,7 +8,7 @@ use std::alloc::{AllocError, Global};
 
 /// An index from the cursors at which ranges start to the numbers of those ranges.
 ///
-/// An entry may be stale: whoever follows it looks at the range that it leads to.
+/// An entry may be stale: a caller that follows it checks the range that it leads to.
 #[derive(Debug, Drop)]
 pub(crate) struct Starts {
     /// By a cursor's number, the number of the range that starts with it.
@@ -28,8 +28,8 @@ impl Starts {
         }
     }
 
-    /// Makes room for cursors with numbers below `cursors`. Fails if out of memory. The ranges that
-    /// the index leads to stay, even on error.
+    /// Makes room for cursors with numbers below `cursors`. Fails if out of memory. The entries are
+    /// unchanged, even on error.
     pub(crate) fn reserve(&mut self, cursors: usize) -> Result<(), AllocError>
         ensures far { self.new.far ≡ self.old.far }
         ensures leads { (row : _) → LeadTo self.old.ids.items row → LeadTo self.new.ids.items row }
@@ -47,13 +47,14 @@ impl Starts {
         !self.far
     }
 
-    /// Notes that a range starts with the first of these cursors, if it has any. Ranges of other
-    /// numbers stay.
+    /// Records that a range starts with the first of these cursors, if it has any. The entries of
+    /// other ranges are unchanged. This does not allocate.
     pub(crate) fn note(&mut self, rows: &[(u64, RangeInfo)], id: u64, cursors: Option<(u64, u64)>)
         requires rising { IsRising rows.now }
         requires led { AreLed self.old rows.now }
         ensures own { self.new.far ≡ false → StartsAt self.new.ids.items id cursors }
-        ensures others { self.new.far ≡ false → All (λ row. row.0 ≢ id → LeadTo self.new.ids.items row) rows.now }
+        ensures others { self.new.far ≡ false
+            → All (λ row. row.0 ≢ id → LeadTo self.new.ids.items row) rows.now }
     {
         let Some((start, _)) = cursors else {
             return;
@@ -67,10 +68,11 @@ impl Starts {
         }
     }
 
-    /// Lets a cursor lead to a range.
+    /// Sets the entry of a cursor to a range. This does not allocate.
     fn lead(&mut self, cursor: u64, id: u64)
         ensures far { self.new.far ≡ false → cursor < length self.new.ids.items }
-        ensures ids { self.new.far ≡ false → self.new.ids.items ≡ slice_set self.old.ids.items cursor id }
+        ensures ids { self.new.far ≡ false
+            → self.new.ids.items ≡ slice_set self.old.ids.items cursor id }
     {
         match self.ids.get_mut(cursor as usize) {
             Some(led) => *led = id,
@@ -78,13 +80,14 @@ impl Starts {
         }
     }
 
-    /// Returns the place of the row whose range starts with this cursor, if there is one.
+    /// Returns the index of the row whose range starts with this cursor, if there is one.
     pub(crate) fn find(&self, rows: &[(u64, RangeInfo)], cursor: u64) -> Option<usize>
         requires rising { IsRising rows.now }
         requires whole { self.now.far ≡ false }
         requires led { AreLed self.now rows.now }
         ensures found { IfSome result (λ i. i < length rows.now) }
-        ensures starts { IfSome result (λ i. (d : _) → IsTrue (starts_with (slice_index_or rows.now i d).1 cursor)) }
+        ensures starts { IfSome result (λ i. (d : _)
+            → IsTrue (starts_with (slice_index_or rows.now i d).1 cursor)) }
         ensures absent { IfNone result (All (λ row. starts_with row.1 cursor ≡ false) rows.now) }
     {
         let id = *self.ids.get(cursor as usize)?;

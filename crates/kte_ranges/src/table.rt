@@ -25,8 +25,8 @@ pub struct NoRange {
 
 /// Ranges, each under a number. Numbers rise from 1, and none is used again.
 ///
-/// Contracts see a table as a record: the ranges by their numbers, the number that the next one gets, and how many more
-/// can be made without memory.
+/// Contracts see a table as a record: the ranges by their numbers, the number that the next one
+/// gets, and how many more can be made without memory.
 #[derive(Debug, Drop)]
 pub struct RangeTable {
     /// In the order of the numbers.
@@ -56,7 +56,7 @@ impl Model for RangeTable {
 }
 
 impl RangeTable {
-    /// A table without ranges. It takes no memory.
+    /// Returns a table without ranges. This does not allocate.
     pub fn new(alloc: Global) -> Self
         ensures ranges { result.ranges ≡ map.empty }
         ensures next { result.next ≡ 1 }
@@ -68,7 +68,8 @@ impl RangeTable {
         }
     }
 
-    /// Makes room for so many calls of `make`. After an error the ranges are as they were.
+    /// Makes room for `ranges` calls of [`RangeTable::make`]. Fails if out of memory; the ranges
+    /// are then unchanged.
     pub fn reserve(&mut self, ranges: u64) -> Result<(), AllocError>
         ensures room { OnOk result (ranges ≤ self.new.room) }
         ensures kept { self.old.room ≤ self.new.room }
@@ -81,7 +82,7 @@ impl RangeTable {
         self.starts.reserve(cursors)
     }
 
-    /// Takes in a range, and answers its number. It takes no memory.
+    /// Adds a range, and returns its number. This does not allocate.
     pub fn make(&mut self, info: RangeInfo) -> u64
         requires room { 1 ≤ self.old.room }
         requires number { self.old.next < 2 ^ 63 }
@@ -98,8 +99,8 @@ impl RangeTable {
         id
     }
 
-    /// Gives a range another origin and other cursors, and answers the cursors that it had. After an error nothing has
-    /// changed.
+    /// Sets the origin and the cursors of a range, and returns the cursors that it had. Fails if
+    /// there is no such range; the table is then unchanged. This does not allocate.
     pub fn set(
         &mut self,
         id: u64,
@@ -125,8 +126,8 @@ impl RangeTable {
         Ok(had)
     }
 
-    /// Takes a range out, and answers the cursors that it had. Its number is not used again. After an error nothing has
-    /// changed.
+    /// Removes a range, and returns the cursors that it had. Its number is not reused. Fails if
+    /// there is no such range; the table is then unchanged.
     pub fn drop_range(&mut self, id: u64) -> Result<Option<(u64, u64)>, NoRange>
         ensures cursors { result ≡ ok_or
             (option_map (λ info. info.cursors) (map.get self.old.ranges id)) (record { id = id }) }
@@ -141,9 +142,10 @@ impl RangeTable {
         Ok(self.rows.remove(i).1.cursors)
     }
 
-    /// Brings every range in order after its cursors have moved. Where a range may be empty, an end before its start goes
-    /// to the start; where it may not, an end at or before the start makes it invalid, and its two cursors are taken out.
-    /// Other cursors stay. It takes no memory.
+    /// Restores start ≤ end in every range after its cursors have moved, or invalidates the range,
+    /// as KTextEditor's MovingRange. If a range may be empty, an end before its start is moved to
+    /// the start; if it may not, an end at or before the start makes it invalid, and its cursors
+    /// are taken out. Other cursors are unchanged. This does not allocate.
     pub fn settle<C: Cursors>(&mut self, cursors: &mut C)
         requires hang { CursorsHang (C.hung cursors.old) self.old.ranges }
         requires apart { CursorsApart self.old.ranges }
@@ -169,9 +171,9 @@ impl RangeTable {
         settle_rows(self.rows.as_mut_slice(), cursors);
     }
 
-    /// Does the same as [`RangeTable::settle`] where every range is settled already that does not
-    /// start on one of the lines that were last touched. It takes the time of the cursors on those
-    /// lines, unless ranges were given cursors of numbers that [`RangeTable::reserve`] made no room
+    /// Does the same as [`RangeTable::settle`], if every range is settled already that does not
+    /// start on one of the lines that were last touched. Its cost is that of the cursors on those
+    /// lines, unless a range was given a cursor whose number [`RangeTable::reserve`] made no room
     /// for, or one cursor was the start of two ranges. This does not allocate.
     pub fn settle_near<C: Cursors>(&mut self, cursors: &mut C)
         requires hang { CursorsHang (C.hung cursors.old) self.old.ranges }
@@ -204,7 +206,7 @@ impl RangeTable {
         settle_near(self.rows.as_mut_slice(), &self.starts, cursors);
     }
 
-    /// The range of this number.
+    /// Returns the range of this number, if there is one.
     pub fn get(&self, id: u64) -> Option<RangeInfo>
         ensures { result ≡ map.get self.now.ranges id }
     {
@@ -212,7 +214,7 @@ impl RangeTable {
         Some(self.rows[i].1)
     }
 
-    /// The numbers of the ranges, rising.
+    /// Returns the numbers of the ranges, rising. Fails if out of memory.
     pub fn ids(&self, alloc: Global) -> Result<Vec<u64>, AllocError>
         ensures ids { IfOk result (λ ids. ids.items ≡ map.keys self.now.ranges) }
         ensures rising { IfOk result (λ ids. IsStrictlyIncreasing ids.items) }
@@ -220,7 +222,7 @@ impl RangeTable {
         self.rows.iter().map(|row| row.0).collect(alloc)
     }
 
-    /// The number that the next range gets. It is above every number in use.
+    /// Returns the number that the next range gets, which is above every number in use.
     pub fn next_id(&self) -> u64
         ensures next { result ≡ self.now.next }
         ensures first { 1 ≤ self.now.next }

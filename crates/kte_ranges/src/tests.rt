@@ -106,11 +106,13 @@ impl Pegs {
     }
 }
 
-/// Settles a table with one range, of cursors 0 and 1, and returns what it is then.
+/// Settles a table with one range, of cursors 0 and 1, and returns what it is then: all ranges, or
+/// those that start near.
 fn settle_lone<C: Cursors>(
     alloc: Global,
     cursors: &mut C,
     empty: Empty,
+    all: bool,
 ) -> Result<Option<RangeInfo>, AllocError>
     requires hang { Hangs (C.hung cursors.old) (range empty (Some (0, 1))) }
     requires near { Contains (C.near cursors.old) 0 }
@@ -120,7 +122,11 @@ fn settle_lone<C: Cursors>(
     let mut table = RangeTable::new(alloc);
     table.reserve(1)?;
     let id = table.make(info(empty, Some((0, 1))));
-    table.settle_near(cursors);
+    if all {
+        table.settle(cursors);
+    } else {
+        table.settle_near(cursors);
+    }
     Ok(table.get(id))
 }
 
@@ -156,21 +162,25 @@ fn a_range_that_is_set_has_the_new_origin(rt: HostRuntime) -> Result<(), Fail> {
 #[test]
 fn a_range_settles_to_where_its_cursors_stand(rt: HostRuntime) -> Result<(), Fail> {
     let rows = [
-        (Empty::Allow, 2, 5, Some((2, 5))),
-        (Empty::Allow, 5, 5, Some((5, 5))),
-        (Empty::Allow, 5, 2, Some((5, 5))),
-        (Empty::Void, 2, 5, Some((2, 5))),
-        (Empty::Void, 5, 5, None),
-        (Empty::Void, 5, 2, None),
+        (true, Empty::Allow, 2, 5, Some((2, 5))),
+        (true, Empty::Allow, 5, 2, Some((5, 5))),
+        (true, Empty::Void, 2, 5, Some((2, 5))),
+        (true, Empty::Void, 5, 5, None),
+        (false, Empty::Allow, 2, 5, Some((2, 5))),
+        (false, Empty::Allow, 5, 5, Some((5, 5))),
+        (false, Empty::Allow, 5, 2, Some((5, 5))),
+        (false, Empty::Void, 2, 5, Some((2, 5))),
+        (false, Empty::Void, 5, 5, None),
+        (false, Empty::Void, 5, 2, None),
     ];
-    for (empty, start, end, want) in rows {
+    for (all, empty, start, end, want) in rows {
         let mut pegs = Pegs {
             start: place(start),
             start_hangs: true,
             end: place(end),
             end_hangs: true,
         };
-        let after = settle_lone(rt.alloc(), &mut pegs, empty)?;
+        let after = settle_lone(rt.alloc(), &mut pegs, empty, all)?;
         assert_eq!(rt; pegs.columns(), want);
         let cursors = if want.is_some() { Some((0, 1)) } else { None };
         assert_eq!(rt; after, Some(info(empty, cursors)));

@@ -5,15 +5,16 @@ use Rattle.std.proofs.lemmas.Fmt.{decimal_digit}
 use Rattle.kte_text.specs.declared.loading.Loaded.{Loaded}
 use Rattle.kte_text.specs.declared.loading.Eol.TheVariants.{Lf}
 use Rattle.kte_text.specs.declared.loading.LoadFault.TheVariants as load
-use Rattle.kte_text.specs.declared.primitive.Primitive.TheVariants.{Insert}
 use Rattle.kte_text.specs.declared.primitive.Misfit.TheVariants.{NoLine, NoColumn, SplitsPair, FirstLine, TooLarge}
-use Rattle.kte_core.specs.React.{text_of}
+use Rattle.kte_place.specs.Place.{at}
+use Rattle.kte_edit.specs.declared.change.Change.TheVariants.{Insert}
+use Rattle.kte_core.specs.Editing.{text_of}
 use Rattle.kte_core.specs.Replay.{replay}
 use Rattle.kte_core.specs.declared.event.Event.{Event}
-use Rattle.kte_core.specs.declared.reply.Reply.TheVariants.{Edited, Range, Dropped, Locked, Unlocked, Landed, Refused}
-use Rattle.kte_core.specs.declared.reply.Refusal.TheVariants.{Misfit, RevisionsFull, NoRange, NotLocked, NotOwned}
+use Rattle.kte_core.specs.declared.reply.Reply.TheVariants.{Edited, Cut, Depth, Range, Dropped, Locked, Unlocked, Landed, Refused}
+use Rattle.kte_core.specs.declared.reply.Refusal.TheVariants.{Misfit, NotOpen, StillOpen, Nothing, RevisionsFull, NoRange, NotLocked, NotOwned}
 use Rattle.kte_command.specs.declared.command.Command.{Command}
-use Rattle.kte_command.specs.declared.command.Command.TheVariants.{Put}
+use Rattle.kte_command.specs.declared.command.Command.TheVariants.{Edit}
 use Rattle.kte_core.specs.declared.request.Request.TheVariants.{Cmd}
 use Rattle.kte_run.specs.declared.TheConstants.{MAX_REVISIONS}
 use Rattle.kte_run.specs.declared.status.Status.TheVariants as status
@@ -27,9 +28,15 @@ constants : MAX_REVISIONS ≡ 2147483648
 constants = refl
 
 abbrev insertion : List ℕ → Command
-insertion units = Put (Insert 0 5 units)
+insertion units = Edit (Insert (at 0 5) (units ∷ []))
 
 -- replies
+
+cut : (reply_text (Cut 1 2 0) ≡ codes "cut 1 2 0") × (reply_text (Depth 3) ≡ codes "depth 3")
+cut = (rw (decimal_digit 1 (omega arith), decimal_digit 2 (omega arith), decimal_digit 0 (omega arith)) refl, rw (decimal_digit 3 (omega arith)) refl)
+
+not_open : (reply_text (Refused NotOpen) ≡ codes "refused notopen") × (reply_text (Refused (StillOpen 2)) ≡ codes "refused stillopen 2") × (reply_text (Refused Nothing) ≡ codes "refused nothing")
+not_open = (refl, rw (decimal_digit 2 (omega arith)) refl, refl)
 
 edited : reply_text (Edited 1 2 0) ≡ codes "edited 1 2 0"
 edited = rw (decimal_digit 1 (omega arith), decimal_digit 2 (omega arith), decimal_digit 0 (omega arith)) refl

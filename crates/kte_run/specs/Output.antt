@@ -8,9 +8,9 @@ use Rattle.kte_text.specs.declared.primitive.Misfit.TheVariants.{NoLine, NoColum
 use Rattle.kte_place.specs.Ends.{Ends}
 use Rattle.kte_core.specs.declared.event.Event.{Event}
 use Rattle.kte_core.specs.declared.reply.Reply.{Reply}
-use Rattle.kte_core.specs.declared.reply.Reply.TheVariants.{Edited, Range, Dropped, Locked, Unlocked, Landed, Refused}
+use Rattle.kte_core.specs.declared.reply.Reply.TheVariants.{Edited, Cut, Depth, Range, Dropped, Locked, Unlocked, Landed, Refused}
 use Rattle.kte_core.specs.declared.reply.Refusal.{Refusal}
-use Rattle.kte_core.specs.declared.reply.Refusal.TheVariants.{Misfit, RevisionsFull, NoRange, NotLocked, NotOwned}
+use Rattle.kte_core.specs.declared.reply.Refusal.TheVariants.{Misfit, NotOpen, StillOpen, Nothing, RevisionsFull, NoRange, NotLocked, NotOwned}
 
 -- a number after a space
 abbrev pub spaced : ℕ → List ℕ
@@ -30,6 +30,9 @@ spaced_or_none (Some n) = spaced n
 
 abbrev pub refusal_text : Refusal → List ℕ
 refusal_text (Misfit cause) = misfit_text cause
+refusal_text NotOpen = codes "notopen"
+refusal_text (StillOpen depth) = codes "stillopen" ++ spaced depth
+refusal_text Nothing = codes "nothing"
 refusal_text (RevisionsFull revision) = codes "revisionsfull" ++ spaced revision
 refusal_text (NoRange id) = codes "norange" ++ spaced id
 refusal_text (NotLocked revision oldest) =
@@ -42,10 +45,15 @@ span_text None = codes " invalid"
 span_text (Some span) = spaced span.start.line ++ spaced span.start.column
     ++ spaced span.end.line ++ spaced span.end.column
 
+-- how many steps were made, the revision after them, and the depth
+abbrev pub edit_text : ℕ → ℕ → ℕ → List ℕ
+edit_text steps revision depth = spaced steps ++ spaced revision ++ spaced depth
+
 -- the spelling of a reply
 abbrev pub reply_text : Reply → List ℕ
-reply_text (Edited steps revision depth) = codes "edited" ++ spaced steps ++ spaced revision
-    ++ spaced depth
+reply_text (Edited steps revision depth) = codes "edited" ++ edit_text steps revision depth
+reply_text (Cut steps revision depth) = codes "cut" ++ edit_text steps revision depth
+reply_text (Depth depth) = codes "depth" ++ spaced depth
 reply_text (Range id span) = codes "range" ++ spaced id ++ span_text span
 reply_text (Dropped id) = codes "dropped" ++ spaced id
 reply_text (Locked revision) = codes "locked" ++ spaced revision

@@ -1,6 +1,6 @@
 -- What a run prints, and what its statuses say. This project's own rules.
-use Rattle.std.specs.Prelude.{◌≡◌, ◌⊎◌, ℕ, List, Option, Some, Ok, IsOk, IfSome}
-use Rattle.std.specs.List.{filter_map}
+use Rattle.std.specs.Prelude.{◌≡◌, ◌⊎◌, ℕ, List, ◌++◌, replicate, Option, Some, None, Ok, IsOk, IfSome}
+use Rattle.std.specs.List.{AllByRecursion, filter_map}
 use Rattle.std.specs.Io.KnownBytes.{Appends, IsAtEnd}
 use Rattle.kte_causes.specs.Faults.{Rose}
 use Rattle.kte_causes.specs.Contents.{AppendsPrefix}
@@ -10,10 +10,12 @@ use Rattle.kte_causes.specs.declared.causes.DiskCall.TheVariants.{SavedLen, Save
 use Rattle.kte_text.specs.Files.{Loads, Refuses}
 use Rattle.kte_text.specs.declared.loading.Loaded.{Loaded}
 use Rattle.kte_text.specs.declared.loading.LoadFault.{LoadFault}
-use Rattle.kte_core.specs.React.{State, text_of}
+use Rattle.kte_core.specs.Editing.{text_of}
+use Rattle.kte_core.specs.React.{State, cut_at}
 use Rattle.kte_core.specs.Replay.{beginning, replay, Legal}
 use Rattle.kte_core.specs.declared.event.Event.{Event}
 use Rattle.kte_command.specs.declared.command.Command.{Command}
+use Rattle.kte_command.specs.declared.command.Command.TheVariants.{End}
 use Rattle.kte_core.specs.declared.request.Request.{Request}
 use Rattle.kte_core.specs.declared.request.Request.TheVariants.{Cmd}
 use Rattle.kte_run.specs.declared.TheConstants.{MAX_REVISIONS}
@@ -32,14 +34,24 @@ command_in (Cmd command) = Some command
 abbrev pub commands_in : List Event → List Command
 commands_in events = filter_map (λ event. command_in event.request) events
 
+-- no event is an edit that was cut short
+abbrev pub IsWhole : Event → Type 0
+IsWhole event = cut_at event.reply ≡ None
+
 -- What is printed for some commands after loading: there is a journal that is legal from the
--- beginning and whose commands are these, in order, and the output is that of its events and of the
--- text after them
+-- beginning and whose commands are these, in order, and then one end for each level of transactions
+-- that they leave open. No edit is cut short, and the output is that of the events and of the text
+-- after them
 pub record Prints (commands : List Command) (loaded : Loaded) (output : List ℕ) : Type 0 where
-  pub events : List Event
-  pub legal : Legal (start_of loaded) events
-  pub ordered : commands_in events ≡ commands
-  pub printed : output ≡ output_of events (text_of (replay (start_of loaded) events).editing)
+  pub asked : List Event
+  pub closing : List Event
+  pub legal : Legal (start_of loaded) (asked ++ closing)
+  pub whole : AllByRecursion IsWhole (asked ++ closing)
+  pub ordered : commands_in asked ≡ commands
+  pub closed : commands_in closing
+      ≡ replicate (replay (start_of loaded) asked).editing.edits.depth End
+  pub printed : output
+      ≡ output_of (asked ++ closing) (text_of (replay (start_of loaded) (asked ++ closing)).editing)
 
 -- a file that is not refused
 abbrev pub IsLoadable : List ℕ → Type 0

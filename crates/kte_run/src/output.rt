@@ -67,6 +67,12 @@ fn push_reply(output: &mut String, reply: &Reply) -> Result<(), AllocError>
             revision,
             depth,
         } => write!(output, "edited {steps} {revision} {depth}"),
+        Reply::Cut {
+            steps,
+            revision,
+            depth,
+        } => write!(output, "cut {steps} {revision} {depth}"),
+        Reply::Depth { depth } => write!(output, "depth {depth}"),
         Reply::Range { id, span } => {
             write!(output, "range {id}")?;
             push_span(output, span)
@@ -116,6 +122,9 @@ fn push_refusal(output: &mut String, refusal: &Refusal) -> Result<(), AllocError
 {
     match refusal {
         Refusal::Misfit(misfit) => push_misfit(output, misfit),
+        Refusal::NotOpen => output.push_str("notopen"),
+        Refusal::StillOpen { depth } => write!(output, "stillopen {depth}"),
+        Refusal::Nothing => output.push_str("nothing"),
         Refusal::RevisionsFull { revision } => write!(output, "revisionsfull {revision}"),
         Refusal::NoRange { id } => write!(output, "norange {id}"),
         Refusal::NotLocked { revision, oldest } => {

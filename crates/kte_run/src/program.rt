@@ -1,4 +1,4 @@
-ghost use Rattle.std.specs.Prelude.{◌≡◌, ◌≢◌, ◌<◌, ◌↔◌, ◌⊎◌, true, [], ◌∷◌, Ok, Err, None, Some, IsOk, IfOk, IfErr, IfSome, IsErrOf, IsSomeAnd, OnOk, All, Contains};
+ghost use Rattle.std.specs.Prelude.{◌≡◌, ◌≢◌, ◌+◌, ◌-◌, ◌^◌, ◌<◌, ◌≤◌, ◌↔◌, ◌⊎◌, true, [], ◌∷◌, length, replicate, Ok, Err, None, Some, IsOk, IfOk, IfErr, IfSome, IsErrOf, IsSomeAnd, OnOk, All, Contains};
 ghost use Rattle.kte_causes.specs.Faults.{Rose};
 ghost use Rattle.std.specs.Io.KnownBytes.{IsAtEnd};
 ghost use Rattle.kte_causes.specs.DiskFaults.{AllStay};
@@ -6,8 +6,12 @@ ghost use Rattle.kte_causes.specs.Moments.{AddsMoments, Staying, saved_now};
 ghost use Rattle.kte_text.specs.Files.{Refuses};
 ghost use Rattle.kte_text.specs.declared.loading.LoadFault.TheVariants.{NoMemory};
 ghost use Rattle.kte_command.specs.Commands.{InRange};
+ghost use Rattle.kte_command.specs.declared.command.Command.TheVariants.{End};
+ghost use Rattle.kte_core.specs.Replay.{present};
 ghost use Rattle.kte_script.specs.Script.{script_of};
+ghost use Rattle.kte_script.specs.declared.TheConstants.{MAX_COMMANDS};
 ghost use Rattle.kte_words.specs.Words.{FirstMisfit, IsCommand};
+ghost use Rattle.kte_run.specs.Asking.{Asked};
 ghost use Rattle.kte_run.specs.Run.{IsLoadable, Prints, Writes, WritesPrefix, ReadsScript, LoadsFile, DiskRose};
 ghost use Rattle.kte_run.specs.Statuses.{file_status, is_of_script};
 
@@ -17,7 +21,7 @@ use crate::saved::load_saved;
 use crate::status::Status;
 use kte_causes::{Disk, Sink, Source, read_whole, write_whole};
 use kte_command::Command;
-use kte_core::{Core, Request};
+use kte_core::{Core, Reply, Request};
 use kte_script::{MAX_SCRIPT_LENGTH, ScriptFault, read_script};
 use kte_text::Loaded;
 use kte_words::{Word, parse};
@@ -146,6 +150,7 @@ fn read_commands<S: Source>(alloc: Global, script: &mut S) -> Result<Vec<Command
     ensures commands { IfOk result (λ commands. IfSome (S.left script.old)
         (λ bytes. script_of bytes ≡ Ok commands.items)) }
     ensures in_range { IfOk result (λ commands. All InRange commands.items) }
+    ensures few { IfOk result (λ commands. length commands.items ≤ MAX_COMMANDS) }
     ensures whole { OnOk result (IsAtEnd (S.left script.new)) }
     ensures calm { OnOk result (S.faults script.new ≡ S.faults script.old) }
     ensures only { IfErr result (λ status. is_of_script status ≡ true) }
@@ -162,14 +167,53 @@ fn read_commands<S: Source>(alloc: Global, script: &mut S) -> Result<Vec<Command
     Ok(commands.into_commands())
 }
 
-/// Returns the output of some commands after loading.
+/// Returns the output of some commands after loading, and of the ends that close what they leave
+/// open.
 fn edited(alloc: Global, loaded: Loaded, commands: Vec<Command>) -> Result<Vec<u8>, AllocError>
-    requires { All InRange commands.items }
+    requires in_range { All InRange commands.items }
+    requires few { length commands.items ≤ MAX_COMMANDS }
     ensures { IfOk result (λ output. Prints commands.items loaded output.items) }
 {
     let mut core = Core::new(alloc, loaded, MAX_REVISIONS)?;
-    for command in commands {
-        core.step(alloc, 0, Request::Cmd(command))?;
-    }
+    ask_all(alloc, &mut core, commands)?;
+    close_all(alloc, &mut core)?;
     output(alloc, core.journal(), core.doc())
+}
+
+/// Asks for the commands of the editor, in order.
+fn ask_all(alloc: Global, core: &mut Core, commands: Vec<Command>) -> Result<(), AllocError>
+    requires in_range { All InRange commands.items }
+    requires few { length core.old.events + length commands.items < 2 ^ 32 - 1 }
+    ensures { OnOk result (Asked commands.items core.old core.new) }
+{
+    for command in commands {
+        ask(alloc, core, command)?;
+    }
+    Ok(())
+}
+
+/// Asks for one end for each level of transactions that is open.
+fn close_all(alloc: Global, core: &mut Core) -> Result<(), AllocError>
+    requires few { length core.old.events < 2 ^ 31 }
+    ensures { OnOk result (Asked (replicate (present core.old).editing.edits.depth End) core.old core.new) }
+{
+    for _ in 0..core.depth() {
+        ask(alloc, core, Command::End)?;
+    }
+    Ok(())
+}
+
+/// Asks for a command of the editor. Fails if out of memory, also where an edit is cut short.
+fn ask(alloc: Global, core: &mut Core, command: Command) -> Result<(), AllocError>
+    requires command { InRange command }
+    requires few { length core.old.events < 2 ^ 32 - 1 }
+    ensures { OnOk result (Asked (command ∷ []) core.old core.new) }
+{
+    // Each open transaction was opened by an event, so there are as few.
+    let _depth = core.depth();
+    let step = core.step(alloc, 0, Request::Cmd(command))?;
+    match step.reply {
+        Reply::Cut { .. } => Err(AllocError),
+        _ => Ok(()),
+    }
 }

@@ -122,7 +122,7 @@ fn a_script_at_fault_is_named(rt: HostRuntime) -> Result<(), Fail> {
         (b"insert 0 x \"a\"", 1, 10),
         (b"insert 0 5 \"!\"\ninsert 0 5", 2, 11),
         (b"insert 0 0 \"\xFF\"", 1, 13),
-        (b"undo", 1, 1),
+        (b"undone", 1, 1),
     ];
     for (script, line, column) in table {
         // The script is judged before the file, which is not UTF-8.
@@ -148,6 +148,94 @@ refused notlocked 0 none\nrefused notowned 0\ntext\n|xab\n|\n";
     let (ended, written) = edit(&rt, script, b"abc\nde")?;
     assert_eq!(rt; ended, 0);
     assert_eq!(rt; written.as_slice(), output.as_slice());
+    Ok(())
+}
+
+#[test]
+fn changes_over_several_lines(rt: HostRuntime) -> Result<(), Fail> {
+    let table: [(&[u8], &[u8], &[u8]); 9] = [
+        (
+            b"xy",
+            b"insert 0 1 \"a\\nb\"",
+            b"edited 3 3 0\ntext\n|xa\n|by\n",
+        ),
+        (
+            b"xy",
+            b"insert 0 1 \"\\n\"",
+            b"edited 1 1 0\ntext\n|x\n|y\n",
+        ),
+        (
+            b"a\nb\nc",
+            b"replace 0 0 2 0 \"z\"",
+            b"edited 5 5 0\ntext\n|zc\n",
+        ),
+        (b"a\nb\nc", b"remove 2 1 0 0", b"edited 5 5 0\ntext\n|\n"),
+        (b"a\nb", b"remove 0 1 1 0", b"edited 1 1 0\ntext\n|ab\n"),
+        (
+            b"a\nb",
+            b"remove 0 0 2 0",
+            b"refused noline 2\ntext\n|a\n|b\n",
+        ),
+        (
+            b"a\nb",
+            b"remove 1 2 0 2",
+            b"refused nocolumn 0 2\ntext\n|a\n|b\n",
+        ),
+        (
+            b"a\n\xF0\x9F\x98\x80",
+            b"remove 0 0 1 1\nreplace 1 1 1 2 \"\"",
+            b"refused splitspair 1 1\nrefused splitspair 1 1\ntext\n|a\n|\xF0\x9F\x98\x80\n",
+        ),
+        (b"a", b"replace 0 1 0 1 \"\"", b"edited 0 0 0\ntext\n|a\n"),
+    ];
+    for (file, script, output) in table {
+        let (ended, written) = edit(&rt, script, file)?;
+        assert_eq!(rt; ended, 0);
+        assert_eq!(rt; written.as_slice(), output);
+    }
+    Ok(())
+}
+
+#[test]
+fn transactions_are_undone_and_redone(rt: HostRuntime) -> Result<(), Fail> {
+    let table: [(&[u8], &[u8], &[u8]); 5] = [
+        (
+            b"ab",
+            b"remove 0 0 0 1\nundo\nredo\nredo",
+            b"edited 1 1 0\nedited 1 2 0\nedited 1 3 0\nrefused nothing\ntext\n|b\n",
+        ),
+        // What the script leaves open is closed.
+        (
+            b"",
+            b"undo\nbegin\ninsert 0 0 \"a\"\nundo",
+            b"refused nothing\ndepth 1\nedited 1 1 1\nrefused stillopen 1\ndepth 0\ntext\n|a\n",
+        ),
+        (
+            b"",
+            b"begin\nbegin\ninsert 0 0 \"a\\nb\"\nend\nremove 0 0 0 1\nend\nundo\nend",
+            b"depth 1\ndepth 2\nedited 3 3 2\ndepth 1\nedited 1 4 1\ndepth 0\nedited 4 8 0\n\
+refused notopen\ntext\n|\n",
+        ),
+        // An empty transaction keeps what may be redone, and any other change does not.
+        (
+            b"ab",
+            b"remove 0 0 0 1\nundo\nbegin\nend\nredo\nundo\ninsert 0 0 \"\"\nredo\nundo\nwrap 0 0\nredo",
+            b"edited 1 1 0\nedited 1 2 0\ndepth 1\ndepth 0\nedited 1 3 0\nedited 1 4 0\n\
+edited 0 4 0\nedited 1 5 0\nedited 1 6 0\nedited 1 7 0\nrefused nothing\ntext\n|\n|ab\n",
+        ),
+        // A range follows an undo as any other change.
+        (
+            b"abc",
+            b"range 0 1 0 2 none void\nremove 0 0 0 3\nundo\nwhere 1\nlock\nredo\nland 2 0 1 0 2 none allow",
+            b"range 1 0 1 0 2\nedited 1 1 0\nedited 1 2 0\nrange 1 invalid\nlocked 2\n\
+edited 1 3 0\nlanded 0 0 0 0\ntext\n|\n",
+        ),
+    ];
+    for (file, script, output) in table {
+        let (ended, written) = edit(&rt, script, file)?;
+        assert_eq!(rt; ended, 0);
+        assert_eq!(rt; written.as_slice(), output);
+    }
     Ok(())
 }
 

@@ -1,5 +1,5 @@
 -- A word that is spelled is read again.
-use Rattle.std.proofs.Common.{◌≡◌, ℕ, ◌^◌, ◌≤◌, ◌<◌, true, nat_eq, List, [], ◌∷◌, ◌++◌, length, Option, Some, Ok, refl, arith}
+use Rattle.std.proofs.Common.{◌≡◌, ℕ, ◌^◌, ◌≤◌, ◌<◌, true, List, [], ◌∷◌, ◌++◌, length, Option, Some, Ok, refl, arith}
 use Rattle.std.specs.Fmt.{decimal}
 use Rattle.std.specs.List.{position_or_len, list_all}
 use Rattle.std.specs.Char.{is_ascii_digit, digit_value}
@@ -9,8 +9,8 @@ use Rattle.std.proofs.lemmas.Fmt.{decimal_is_IsNumeral, length-decimal-le, decim
 use Rattle.std.proofs.lemmas.Bool.{and_parts, lt-ltb, le-leb}
 use Rattle.std.proofs.lemmas.Bool.Decides.{nat_tests}
 use Rattle.kte_script.specs.declared.TheConstants.{MAX_DIGITS}
-use Rattle.kte_script.specs.Words.{is_space, is_other, skip, word, behind, ends_here, is_number, number_of, same_number}
-use Rattle.kte_script.specs.Fields.{word_at, number_at, same_at, spell_number}
+use Rattle.kte_script.specs.Words.{is_space, is_other, skip, word, behind, ends_here, is_number, number_of}
+use Rattle.kte_script.specs.Fields.{word_at, number_at, spell_number}
 
 -- a word: not empty, and without spaces
 pub record IsWord (word : List ℕ) : Type 0 where
@@ -102,13 +102,3 @@ unfolding number_at number_of
 number_again most n rest le small e =
     meant_again (number_of most) n (decimal n) rest (decimal_word n small)
     (rw (decimal_number most n le small, decimal_value n small) refl) e
-
-same_test : (n : ℕ) → nat_eq n n ≡ true
-same_test n = grind (arith, nat_tests)
-
-pub same_again : (n : ℕ) (rest : List ℕ) → n < 10 ^ MAX_DIGITS → ends_here rest ≡ true
-    → same_at n (spell_number n ++ rest) ≡ Ok (n, rest)
-unfolding same_at same_number
-same_again n rest small e =
-    meant_again (same_number n) n (decimal n) rest (decimal_word n small)
-    (rw (decimal_number n n (omega arith) small, decimal_value n small, same_test n) refl) e

@@ -1,21 +1,25 @@
 -- Worked examples of the definitions.
 use Rattle.std.proofs.Common.{◌≡◌, [], ◌∷◌, ◌++◌, refl, Ok, Err, Some, None}
 use Rattle.std.specs.Prelude.{codes, true, false}
+use Rattle.std.specs.Char.{encode_utf8}
+use Rattle.std.specs.Char.Utf16.{utf16_chars}
 use Rattle.std.specs.Fmt.{digits}
-use Rattle.kte_text.specs.declared.primitive.Primitive.TheVariants.{Wrap, Remove}
+use Rattle.std.specs.Str.{is_utf8, chars}
+use Rattle.kte_place.specs.Place.{at}
 use Rattle.kte_place.specs.Examples.{span, expand}
 use Rattle.kte_place.specs.declared.span.Empty.TheVariants.{Allow, Void}
-use Rattle.kte_command.specs.declared.command.Command.TheVariants.{Put, MakeRange, SetRange}
-use Rattle.kte_script.specs.Words.{skip, word, behind, is_number, number_of, same_number}
-use Rattle.kte_script.specs.Strings.{string_from, string_at}
-use Rattle.kte_script.specs.Fields.{number_at, same_at, place_at, place_on, span_at, one_line_at, expand_of, expand_at, empty_of, empty_at}
+use Rattle.kte_edit.specs.declared.change.Change.TheVariants as Change
+use Rattle.kte_command.specs.declared.command.Command.TheVariants.{Edit, Begin, End, Undo, Redo, MakeRange, SetRange}
+use Rattle.kte_script.specs.Words.{skip, word, behind, is_number, number_of}
+use Rattle.kte_script.specs.Strings.{string_from, string_at, line_in, text_in, spell_byte, spell_text}
+use Rattle.kte_script.specs.Fields.{number_at, place_at, span_at, text_at, expand_of, expand_at, empty_of, empty_at}
 use Rattle.kte_script.specs.Table.{spelling}
 use Rattle.kte_script.specs.Reading.{row_at, front_at, end_at, command_at}
 use Rattle.kte_script.specs.Script.{lines_of}
 
 -- ---- reading: a command, or how many bytes are left from the word at fault on
 
-wrapped : command_at (codes "  wrap 01   5 ") ≡ Ok (Put (Wrap 1 5))
+wrapped : command_at (codes "  wrap 01   5 ") ≡ Ok (Edit (Change.Wrap (at 1 5)))
 unfolding skip word behind is_number number_of number_at place_at row_at front_at end_at command_at
 wrapped = refl
 
@@ -23,14 +27,58 @@ ordered : command_at (codes "range 2 0 1 3 left void") ≡ Ok (MakeRange (span 1
 unfolding skip word behind is_number number_of number_at place_at span_at expand_of expand_at empty_of empty_at row_at front_at end_at command_at
 ordered = refl
 
-removed : command_at (codes "remove 1 5 1 2") ≡ Ok (Put (Remove 1 2 3))
-unfolding skip word behind is_number number_of same_number number_at same_at place_at place_on one_line_at row_at front_at end_at command_at
+-- the places of a span in either order, on one line and over several
+removed : command_at (codes "remove 1 5 1 2") ≡ Ok (Edit (Change.Remove (span 1 2 1 5)))
+unfolding skip word behind is_number number_of number_at place_at span_at row_at front_at end_at command_at
 removed = refl
 
--- the second line number is another than the first
-two_lines : command_at (codes "remove 0 0 1 0") ≡ Err 3
-unfolding skip word behind is_number number_of same_number number_at same_at place_at place_on one_line_at row_at front_at end_at command_at
-two_lines = refl
+removed_lines : command_at (codes "remove 2 0 0 7") ≡ Ok (Edit (Change.Remove (span 0 7 2 0)))
+unfolding skip word behind is_number number_of number_at place_at span_at row_at front_at end_at command_at
+removed_lines = refl
+
+unwrapped : command_at (codes "unwrap 1073741824") ≡ Ok (Edit (Change.Unwrap 1073741824))
+unfolding skip word behind is_number number_of number_at place_at row_at front_at end_at command_at
+unwrapped = refl
+
+-- `insert 0 1 "a\nb"` and `replace 0 0 2 0 "z"`
+inserted : command_at (codes "insert 0 1 " ++ 34 ∷ 97 ∷ 92 ∷ 110 ∷ 98 ∷ 34 ∷ [])
+    ≡ Ok (Edit (Change.Insert (at 0 1) (codes "a" ∷ codes "b" ∷ [])))
+unfolding skip word behind is_number number_of number_at place_at string_from string_at line_in text_in text_at is_utf8 chars encode_utf8 row_at front_at end_at command_at
+inserted = refl
+
+replaced : command_at (codes "replace 0 0 2 0 " ++ 34 ∷ 122 ∷ 34 ∷ [])
+    ≡ Ok (Edit (Change.Replace (span 0 0 2 0) (codes "z" ∷ [])))
+unfolding skip word behind is_number number_of number_at place_at span_at string_from string_at line_in text_in text_at is_utf8 chars encode_utf8 row_at front_at end_at command_at
+replaced = refl
+
+-- a string is missing, and another word stands there
+no_string : command_at (codes "replace 0 0 2 0") ≡ Err 0
+unfolding skip word behind is_number number_of number_at place_at span_at string_from string_at line_in text_in text_at is_utf8 chars encode_utf8 row_at front_at end_at command_at
+no_string = refl
+
+word_for_string : command_at (codes "replace 0 0 2 0 z 1") ≡ Err 3
+unfolding skip word behind is_number number_of number_at place_at span_at string_from string_at line_in text_in text_at is_utf8 chars encode_utf8 row_at front_at end_at command_at
+word_for_string = refl
+
+begun : command_at (codes "begin") ≡ Ok Begin
+unfolding skip word behind row_at front_at end_at command_at
+begun = refl
+
+ended_by : command_at (codes " end  ") ≡ Ok End
+unfolding skip word behind row_at front_at end_at command_at
+ended_by = refl
+
+undone : command_at (codes "undo") ≡ Ok Undo
+unfolding skip word behind row_at front_at end_at command_at
+undone = refl
+
+redone : command_at (codes "redo") ≡ Ok Redo
+unfolding skip word behind row_at front_at end_at command_at
+redone = refl
+
+begin_one : command_at (codes "begin 1") ≡ Err 1
+unfolding skip word behind row_at front_at end_at command_at
+begin_one = refl
 
 second_number : command_at (codes "wrap 1 x9") ≡ Err 2
 unfolding skip word behind is_number number_of number_at place_at row_at front_at end_at command_at
@@ -53,10 +101,6 @@ eleven_digits : command_at (codes "unwrap 00000000000") ≡ Err 11
 unfolding skip word behind is_number number_of number_at row_at front_at end_at command_at
 eleven_digits = refl
 
-not_built : command_at (codes "begin") ≡ Err 5
-unfolding skip word behind is_number number_of number_at row_at front_at end_at command_at
-not_built = refl
-
 -- ---- strings
 
 -- `"a\"\x07" b`: a mark that is escaped does not end it
@@ -69,6 +113,32 @@ no_cr : string_at (34 ∷ 92 ∷ 120 ∷ 48 ∷ 100 ∷ 34 ∷ []) ≡ None
 unfolding string_from string_at
 no_cr = refl
 
+-- `"\x0a"` and `"\r"`: LF is written by `\n` alone, and CR by nothing
+no_lf : string_at (34 ∷ 92 ∷ 120 ∷ 48 ∷ 97 ∷ 34 ∷ []) ≡ None
+unfolding string_from string_at
+no_lf = refl
+
+no_r : string_at (34 ∷ 92 ∷ 114 ∷ 34 ∷ []) ≡ None
+unfolding string_from string_at
+no_r = refl
+
+-- texts: two lines, an end at the end, an end alone, and nothing, which is one empty line
+two_lines : text_in (97 ∷ 10 ∷ 98 ∷ []) ≡ Some (codes "a" ∷ codes "b" ∷ [])
+unfolding line_in text_in is_utf8 chars encode_utf8
+two_lines = refl
+
+end_last : text_in (97 ∷ 10 ∷ []) ≡ Some (codes "a" ∷ [] ∷ [])
+unfolding line_in text_in is_utf8 chars encode_utf8
+end_last = refl
+
+end_alone : text_in (10 ∷ []) ≡ Some ([] ∷ [] ∷ [])
+unfolding line_in text_in is_utf8 chars encode_utf8
+end_alone = refl
+
+empty_string : text_in [] ≡ Some ([] ∷ [])
+unfolding line_in text_in is_utf8 chars encode_utf8
+empty_string = refl
+
 -- ---- lines
 
 split : lines_of (codes "a" ++ (13 ∷ 10 ∷ 13 ∷ 13 ∷ 10 ∷ codes "b" ++ (13 ∷ []))) ≡ codes "a" ∷ (13 ∷ []) ∷ (98 ∷ 13 ∷ []) ∷ []
@@ -79,9 +149,35 @@ ended = refl
 
 -- ---- spelling
 
-spelled_removal : spelling (Put (Remove 1 2 3)) ≡ codes "remove 1 2 1 5"
+spelled_removal : spelling (Edit (Change.Remove (span 1 2 3 0))) ≡ codes "remove 1 2 3 0"
 unfolding digits
 spelled_removal = refl
+
+-- `insert 0 1 "a\nb"`, `insert 0 0 "\n"` and `replace 0 0 2 0 ""`
+spelled_lines : spelling (Edit (Change.Insert (at 0 1) (codes "a" ∷ codes "b" ∷ [])))
+    ≡ codes "insert 0 1 " ++ 34 ∷ 97 ∷ 92 ∷ 110 ∷ 98 ∷ 34 ∷ []
+unfolding digits spell_byte spell_text utf16_chars encode_utf8
+spelled_lines = refl
+
+spelled_end : spelling (Edit (Change.Insert (at 0 0) ([] ∷ [] ∷ []))) ≡ codes "insert 0 0 " ++ 34 ∷ 92 ∷ 110 ∷ 34 ∷ []
+unfolding digits spell_byte spell_text utf16_chars encode_utf8
+spelled_end = refl
+
+spelled_nothing : spelling (Edit (Change.Replace (span 0 0 2 0) ([] ∷ []))) ≡ codes "replace 0 0 2 0 " ++ 34 ∷ 34 ∷ []
+unfolding digits spell_byte spell_text utf16_chars encode_utf8
+spelled_nothing = refl
+
+spelled_begin : spelling Begin ≡ codes "begin"
+spelled_begin = refl
+
+spelled_end_of_it : spelling End ≡ codes "end"
+spelled_end_of_it = refl
+
+spelled_undo : spelling Undo ≡ codes "undo"
+spelled_undo = refl
+
+spelled_redo : spelling Redo ≡ codes "redo"
+spelled_redo = refl
 
 spelled_range : spelling (MakeRange (span 1 3 2 0) (expand true true) Allow) ≡ codes "range 1 3 2 0 both allow"
 unfolding digits

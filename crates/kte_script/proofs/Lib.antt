@@ -1,6 +1,7 @@
 pub mod WordLemmas
 pub mod NumberLemmas
 pub mod StringLemmas
+pub mod PartLemmas
 pub mod LineLemmas
 pub mod SpellingLemmas
 pub mod AgainLemmas

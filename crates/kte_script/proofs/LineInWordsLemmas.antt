@@ -5,7 +5,7 @@ use Rattle.std.specs.List.{list_all}
 use Rattle.std.specs.Char.{is_ascii_digit}
 use Rattle.std.specs.Str.{bytes_eq}
 use Rattle.std.specs.Str.Parse.{digits_value}
-use Rattle.std.proofs.lemmas.Bool.{and_parts, ltb-true, leb-true, lt-ltb, le-leb, eqb-true}
+use Rattle.std.proofs.lemmas.Bool.{and_parts, ltb-true, leb-true, lt-ltb, le-leb}
 use Rattle.std.proofs.lemmas.Bool.Decides.{nat_tests}
 use Rattle.std.proofs.lemmas.Slice.Eq.{bytes_eq-Decides}
 use Rattle.kte_place.specs.declared.place.TheConstants.{MAX_REACH}
@@ -16,11 +16,11 @@ use Rattle.kte_place.specs.Place.{at}
 use Rattle.kte_place.specs.Span.{between}
 use Rattle.kte_command.specs.declared.command.Command.{Command}
 use Rattle.kte_script.specs.declared.TheConstants.{MAX_DIGITS}
-use Rattle.kte_script.specs.Words.{is_space, skip, is_number, number_of, same_number}
-use Rattle.kte_script.specs.Fields.{Kind, Number, APlace, ASpan, OneLine, Quotation, Expands, Empties, Reading, ◌>>=◌, word_at, number_at, same_at, place_at, place_on, span_at, one_line_at, line_at, expand_of, expand_at, empty_of, empty_at, expand_word, empty_word, read_field}
+use Rattle.kte_script.specs.Words.{is_space, skip, is_number, number_of}
+use Rattle.kte_script.specs.Fields.{Kind, Number, APlace, ASpan, AText, Expands, Empties, Reading, ◌>>=◌, word_at, number_at, place_at, span_at, text_at, expand_of, expand_at, empty_of, empty_at, expand_word, empty_word, read_field}
 use Rattle.kte_script.specs.Table.{Values, Row, table, row_in}
 use Rattle.kte_script.specs.Reading.{read_fields, row_at, front_at, end_at, command_at}
-use Rattle.kte_script.specs.InWords.{starts_otherwise, Begins, Misfits, IsNumber, IsSame, IsQuoted, IsExpand, IsEmpty, HasNumber, FailsNumber, HasPlace, FailsPlace, HasPlaceOn, FailsPlaceOn, HasField, FailsField, HasFields, FailsFields, IsOneOf, IsWordOf, HasMore, IsCommandLine, IsFaultyLine}
+use Rattle.kte_script.specs.InWords.{starts_otherwise, Begins, Misfits, IsNumber, IsQuoted, IsExpand, IsEmpty, HasNumber, FailsNumber, HasPlace, FailsPlace, HasField, FailsField, HasFields, FailsFields, IsOneOf, IsWordOf, HasMore, IsCommandLine, IsFaultyLine}
 use Rattle.kte_script.proofs.AgainLemmas.{IsWord, all_digits, all_other}
 use Rattle.kte_script.proofs.NumberLemmas.{digits}
 use Rattle.kte_script.proofs.WordLemmas.{found}
@@ -57,27 +57,6 @@ number_reads : (most : ℕ) → Reads (HasNumber most) (FailsNumber most) (numbe
 unfolding number_at
 number_reads most = word_reads (IsNumber most) _ (meaning_front (IsNumber most) (number_of most) (number_sound most) (number_full most))
 
-same_sound : (wanted : ℕ) (w : List ℕ) (n : ℕ) → same_number wanted w ≡ Some n → IsSame wanted n w
-unfolding same_number number_of
-same_sound wanted w n e =
-    let f = found (is_number wanted w && nat_eq (digits_value 10 w) wanted) wanted n e in
-    let p = and_parts (is_number wanted w) (nat_eq (digits_value 10 w) wanted) f.0 in
-    let value : digits_value 10 w ≡ n = eqb-true _ _ p.1 ∙ f.1 in
-    (number_sound wanted w n (rw p.0 (ap (λ (v : ℕ). Some v) value)), sym f.1)
-
-same_test : (a b : ℕ) → a ≡ b → nat_eq a b ≡ true
-same_test a b e = grind (arith, nat_tests)
-
-same_full : (wanted : ℕ) (w : List ℕ) (n : ℕ) → IsSame wanted n w → IsWord w × (same_number wanted w ≡ Some n)
-unfolding same_number
-same_full wanted w n is =
-    let test = same_test (digits_value 10 w) wanted (is.0.value ∙ is.1) in
-    (number_word wanted n w is.0, rw (number_tested wanted n w is.0, test) (ap (λ (v : ℕ). Some v) (sym is.1)))
-
-same_reads : (wanted : ℕ) → Reads (λ n. Begins (IsSame wanted n)) (Misfits (IsSame wanted)) (same_at wanted)
-unfolding same_at
-same_reads wanted = word_reads (IsSame wanted) _ (meaning_front (IsSame wanted) (same_number wanted) (same_sound wanted) (same_full wanted))
-
 -- ---- places and spans
 
 place_reads : Reads HasPlace FailsPlace place_at
@@ -86,27 +65,15 @@ place_reads =
     then_reads at (HasNumber MAX_REACH) (FailsNumber MAX_REACH) (number_at MAX_REACH) (λ line. HasNumber MAX_REACH) (λ line. FailsNumber MAX_REACH) (λ line. number_at MAX_REACH)
     (number_reads MAX_REACH) (λ line. number_reads MAX_REACH)
 
-place_on_reads : (wanted : ℕ) → Reads (HasPlaceOn wanted) (FailsPlaceOn wanted) (place_on wanted)
-unfolding place_on
-place_on_reads wanted =
-    then_reads at (λ n. Begins (IsSame wanted n)) (Misfits (IsSame wanted)) (same_at wanted) (λ line. HasNumber MAX_REACH) (λ line. FailsNumber MAX_REACH) (λ line. number_at MAX_REACH)
-    (same_reads wanted) (λ line. number_reads MAX_REACH)
-
 span_reads : Reads (HasField ASpan) (FailsField ASpan) span_at
 unfolding span_at
 span_reads =
     then_reads between HasPlace FailsPlace place_at (λ first. HasPlace) (λ first. FailsPlace) (λ first. place_at)
     place_reads (λ first. place_reads)
 
-one_line_reads : Reads (HasField OneLine) (FailsField OneLine) one_line_at
-unfolding one_line_at
-one_line_reads =
-    then_reads between HasPlace FailsPlace place_at (λ first. HasPlaceOn first.line) (λ first. FailsPlaceOn first.line) (λ first. place_on first.line)
-    place_reads (λ first. place_on_reads first.line)
-
-line_reads : Reads (HasField Quotation) (FailsField Quotation) line_at
-unfolding line_at
-line_reads = word_reads IsQuoted _ quoted_front
+text_reads : Reads (HasField AText) (FailsField AText) text_at
+unfolding text_at
+text_reads = word_reads IsQuoted _ quoted_front
 
 -- ---- words that are given
 
@@ -193,8 +160,7 @@ pub field_reads : (kind : Kind) → Reads (HasField kind) (FailsField kind) (rea
 field_reads (Number most) = number_reads most
 field_reads APlace = place_reads
 field_reads ASpan = span_reads
-field_reads OneLine = one_line_reads
-field_reads Quotation = line_reads
+field_reads AText = text_reads
 field_reads Expands = expand_reads
 field_reads Empties = empty_reads
 
@@ -240,7 +206,12 @@ row_listed row (inr (inr (inr (inr (inr (inr (inr (inl e)))))))) = rw e (record 
 row_listed row (inr (inr (inr (inr (inr (inr (inr (inr (inl e))))))))) = rw e (record { some = lit< tt; whole = refl }, refl)
 row_listed row (inr (inr (inr (inr (inr (inr (inr (inr (inr (inl e)))))))))) = rw e (record { some = lit< tt; whole = refl }, refl)
 row_listed row (inr (inr (inr (inr (inr (inr (inr (inr (inr (inr (inl e))))))))))) = rw e (record { some = lit< tt; whole = refl }, refl)
-row_listed row (inr (inr (inr (inr (inr (inr (inr (inr (inr (inr (inr none))))))))))) = absurd none
+row_listed row (inr (inr (inr (inr (inr (inr (inr (inr (inr (inr (inr (inl e)))))))))))) = rw e (record { some = lit< tt; whole = refl }, refl)
+row_listed row (inr (inr (inr (inr (inr (inr (inr (inr (inr (inr (inr (inr (inl e))))))))))))) = rw e (record { some = lit< tt; whole = refl }, refl)
+row_listed row (inr (inr (inr (inr (inr (inr (inr (inr (inr (inr (inr (inr (inr (inl e)))))))))))))) = rw e (record { some = lit< tt; whole = refl }, refl)
+row_listed row (inr (inr (inr (inr (inr (inr (inr (inr (inr (inr (inr (inr (inr (inr (inl e))))))))))))))) = rw e (record { some = lit< tt; whole = refl }, refl)
+row_listed row (inr (inr (inr (inr (inr (inr (inr (inr (inr (inr (inr (inr (inr (inr (inr (inl e)))))))))))))))) = rw e (record { some = lit< tt; whole = refl }, refl)
+row_listed row (inr (inr (inr (inr (inr (inr (inr (inr (inr (inr (inr (inr (inr (inr (inr (inr none)))))))))))))))) = absurd none
 
 row_full : (w : List ℕ) (row : Row) → IsWordOf row w → IsWord w × (row_in table w ≡ Some row)
 row_full w row is = rw is.1 (row_listed row is.0)

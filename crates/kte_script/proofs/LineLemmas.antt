@@ -1,22 +1,19 @@
 -- The lines of a script, and reading them one after another.
 use denote.Ref.{Bor}
-use Rattle.std.proofs.Common.{◌≡◌, ℕ, ◌+◌, ◌-◌, ◌<◌, Bool, true, false, ltb, eqb, List, [], ◌∷◌, ◌++◌, length, take, drop, Option, None, Some, Result, Ok, Err, refl, sym, ap, ◌∙◌, append_assoc, append-nil, arith, inl, inr, ◌⊎◌}
-use Rattle.std.specs.List.{position, position_or_len, slice_split, onto_first}
+use Rattle.std.proofs.Common.{◌≡◌, ℕ, ◌+◌, ◌-◌, ◌<◌, Bool, true, false, eqb, List, [], ◌∷◌, ◌++◌, length, Option, None, Some, Result, Ok, Err, refl, sym, ap, ◌∙◌, append_assoc, append-nil, arith, inl, inr, ◌⊎◌}
+use Rattle.std.specs.List.{slice_split, onto_first}
 use Rattle.std.specs.Str.{is_utf8, IsUtf8}
 use Rattle.std.specs.Str.Lossy.{utf8_valid_len}
-use Rattle.std.proofs.lemmas.List.Splits.{slice_split_first, slice_split_none, slice_split-cons_yes, slice_split-cons_no}
-use Rattle.std.proofs.lemmas.List.Sums.{fails_before_first}
-use Rattle.std.proofs.lemmas.List.{length-drop}
+use Rattle.std.proofs.lemmas.List.Splits.{slice_split-cons_yes, slice_split-cons_no}
 use Rattle.std.proofs.lemmas.Str.{is_utf8-from_IsUtf8, IsUtf8-from_is_utf8}
-use Rattle.std.proofs.lemmas.Bool.{ltb-true}
 use Rattle.std.proofs.lemmas.Bool.Decides.{nat_tests}
 use Rattle.kte_command.specs.declared.command.Command.{Command}
 use Rattle.kte_script.specs.declared.fault.ScriptFault.{ScriptFault}
 use Rattle.kte_script.specs.declared.fault.ScriptFault.TheVariants as faults
+use Rattle.kte_script.specs.Ends.{is_end, parts_of, FirstPart}
 use Rattle.kte_script.specs.Words.{skip}
 use Rattle.kte_script.specs.Reading.{command_at}
-use Rattle.kte_script.specs.Script.{is_end, without_cr, ended, lines_of, Nothing, Says, Faulty, is_skipped, meaning, before_all, read_from, after_all, FirstLine, FailsScript}
-use Rattle.kte_script.proofs.WordLemmas.{at_position, at_end, found}
+use Rattle.kte_script.specs.Script.{without_cr, ended, lines_of, Nothing, Says, Faulty, is_skipped, meaning, before_all, read_from, after_all, FirstLine, FailsScript}
 
 decide : (b : Bool) → (b ≡ true) ⊎ (b ≡ false)
 decide true = inl refl
@@ -38,24 +35,18 @@ ended-cons : (line bytes : List ℕ)
     → ended (line ∷ slice_split is_end bytes) ≡ without_cr line ∷ lines_of bytes
 ended-cons line bytes = let p = some_part bytes in rw p.2 refl
 
-pub first_line : (bytes line rest : List ℕ) (n : ℕ) → position is_end bytes ≡ Some n
-    → line ≡ without_cr (take n bytes) → rest ≡ drop (n + 1) bytes
-    → (lines_of bytes ≡ line ∷ lines_of rest) × (length rest < length bytes)
-first_line bytes line rest n e is_line is_rest =
-    let same : position_or_len is_end bytes ≡ n = at_position is_end bytes n e in
-    let test = (found (ltb (position_or_len is_end bytes) (length bytes)) (position_or_len is_end bytes) n e).0 in
-    let there : position_or_len is_end bytes < length bytes = ltb-true _ _ test in
-    let parts : slice_split is_end bytes ≡ take n bytes ∷ slice_split is_end (drop (n + 1) bytes) =
-    rw same at (slice_split_first is_end bytes 0 there) in
-    let lines : lines_of bytes ≡ line ∷ lines_of rest =
-    rw (parts, is_line, is_rest) (ended-cons (take n bytes) (drop (n + 1) bytes)) in
-    (lines, rw is_rest (omega (arith, length-drop (n + 1) bytes)))
+pub first_line : (bytes part line rest : List ℕ) → parts_of bytes ≡ part ∷ parts_of rest
+    → line ≡ without_cr part → lines_of bytes ≡ line ∷ lines_of rest
+first_line bytes part line rest parts is = rw (parts, is) (ended-cons part rest)
 
-pub last_line : (bytes : List ℕ) → position is_end bytes ≡ None → lines_of bytes ≡ bytes ∷ []
-last_line bytes e =
-    let whole = at_end is_end bytes e in
-    let none = slice_split_none is_end bytes (λ k d lt. fails_before_first is_end bytes k d (omega arith)) in
-    rw none refl
+pub ended_line : (bytes part line : List ℕ) (more : Option (Bor (List ℕ))) (rest : Bor (List ℕ)) → FirstPart bytes part more
+    → more ≡ Some rest → line ≡ without_cr part → FirstLine bytes line (Some rest)
+ended_line bytes part line more rest first is e =
+    let f = rw is at first in
+    (first_line bytes part line rest.now f.0 e, omega (arith, f.1))
+
+pub last_line : (bytes line : List ℕ) → parts_of bytes ≡ line ∷ [] → lines_of bytes ≡ line ∷ []
+last_line bytes line parts = rw parts refl
 
 -- ---- what a line says
 

@@ -1,20 +1,16 @@
 -- Strings in words: each byte stands for itself or is written by an escape.
-use Rattle.std.proofs.Common.{◌≡◌, ◌≢◌, ℕ, ◌+◌, ◌*◌, ◌/◌, ◌%◌, ◌<◌, Bool, true, false, cond, nat_eq, nat_le, ◌&&◌, ◌-◌, List, [], ◌∷◌, ◌++◌, length, Option, None, Some, Ok, Err, refl, sym, ap, ◌∙◌, subst, append_assoc, arith, inl, inr, ◌⊎◌}
+use Rattle.std.proofs.Common.{◌≡◌, ◌≢◌, ℕ, ◌+◌, ◌*◌, ◌/◌, ◌%◌, ◌≤◌, ◌<◌, Bool, true, false, cond, nat_eq, nat_le, ◌&&◌, ◌-◌, List, [], ◌∷◌, ◌++◌, length, Option, None, Some, Ok, Err, refl, sym, ap, ◌∙◌, subst, append_assoc, arith, inl, inr, ◌⊎◌}
 use Rattle.std.specs.Option.{option_and_then}
-use Rattle.std.specs.List.{list_any}
 use Rattle.std.specs.Char.{is_ascii_digit}
-use Rattle.std.specs.Str.{is_utf8}
 use Rattle.std.proofs.lemmas.Bool.{eqb-true}
 use Rattle.std.proofs.lemmas.Bool.Decides.{nat_tests}
-use Rattle.std.proofs.lemmas.Str.{IsUtf8-from_is_utf8}
-use Rattle.kte_text.specs.Units.{IsLine, is_line_end, utf8_of}
-use Rattle.kte_text.specs.Reading.{utf16_of}
-use Rattle.kte_text.proofs.CharLemmas.{IsLine-utf16_of, utf8_of-utf16_of}
+use Rattle.std.proofs.lemmas.List.{length-append}
 use Rattle.kte_script.specs.Words.{ends_here}
-use Rattle.kte_script.specs.Strings.{Mode, Plain, Escape, Code, Digit, Quoted, hex_value, hex_digit, is_coded, is_plain, with_byte, string_from, string_at, line_in}
+use Rattle.kte_script.specs.Strings.{Mode, Plain, Escape, Code, Digit, Quoted, hex_value, hex_digit, is_coded, is_plain, with_byte, string_from, string_at, text_in, utf8_of_text}
 use Rattle.kte_script.specs.Fields.{Reading, quoted, held}
 use Rattle.kte_script.specs.InWords.{MaySpell, MaySpellAll, IsQuoted, starts_otherwise}
-use Rattle.kte_script.proofs.StringLemmas.{first_plain, line_in-utf8_of}
+use Rattle.kte_script.proofs.StringLemmas.{first_plain}
+use Rattle.kte_script.proofs.PartLemmas.{text_in-utf8_of_text, text_of_bytes}
 use Rattle.kte_script.proofs.QuotedLemmas.{code_again}
 use Rattle.kte_script.proofs.ReadsLemmas.{Front, done_same}
 
@@ -297,29 +293,6 @@ string_sound (Digit high) (byte ∷ bytes) quoted e = λ digit is.
 
 -- ---- a string as a word
 
-abbrev no_line : Option (List ℕ)
-no_line = None
-
-none_line : (line : List ℕ) → no_line ≡ Some line → ⊥
-none_line line e = cc
-
-some_line : (a b : List ℕ) → Some a ≡ Some b → a ≡ b
-some_line a b e = cc
-
-line_of_text : (text line : List ℕ) → line_in text ≡ Some line → IsLine line × (utf8_of line ≡ text)
-unfolding line_in
-line_of_text text line e =
-    elim (decide (is_utf8 text)) [
-      | inl u ↦ elim (decide (list_any is_line_end text)) [
-        | inl end ↦ absurd (none_line line (rw (u, end) at e))
-        | inr none ↦
-            let utf8 = IsUtf8-from_is_utf8 text u in
-            let is : utf16_of text ≡ line = some_line (utf16_of text) line (rw (u, none) at e) in
-            rw (← is) (IsLine-utf16_of text utf8 none, utf8_of-utf16_of text utf8)
-      ]
-      | inr u ↦ absurd (none_line line (rw u at e))
-    ]
-
 string_at_mark : (s : List ℕ) (q : Quoted) → string_at s ≡ Some q
     → (bytes : List ℕ) × (s ≡ 34 ∷ bytes) × (string_from Plain bytes ≡ Some q)
 unfolding string_at
@@ -330,32 +303,32 @@ string_at_mark (byte ∷ bytes) q e =
       | inr other ↦ no_quoted q (rw other at e)
     ]
 
-abbrev failed : ℕ → Reading (List ℕ)
+abbrev failed : ℕ → Reading (List (List ℕ))
 failed n = Err n
 
-wrong : (left : ℕ) (found : List ℕ × List ℕ) → failed left ≡ Ok found → ⊥
+wrong : (left : ℕ) (found : List (List ℕ) × List ℕ) → failed left ≡ Ok found → ⊥
 wrong left found e = cc
 
 same_left : (m n : ℕ) → failed m ≡ failed n → n ≡ m
 same_left m n e = cc
 
-held_some : (o : Option (List ℕ)) (after s line rest : List ℕ) → held o after s ≡ Ok (line, rest)
-    → (o ≡ Some line) × (after ≡ rest) × (ends_here after ≡ true)
-held_some None after s line rest e = absurd cc
-held_some (Some x) after s line rest e =
+held_some : (o : Option (List (List ℕ))) (after s : List ℕ) (text : List (List ℕ)) (rest : List ℕ)
+    → held o after s ≡ Ok (text, rest) → (o ≡ Some text) × (after ≡ rest) × (ends_here after ≡ true)
+held_some None after s text rest e = absurd cc
+held_some (Some x) after s text rest e =
     elim (decide (ends_here after)) [
       | inl ends ↦
-          let p : (x, after) ≡ (line, rest) = done_same {A = List ℕ × List ℕ} (x, after) (line, rest) (rw ends at e) in
-          (ap (λ (q : List ℕ × List ℕ). Some q.0) p, ap (λ (q : List ℕ × List ℕ). q.1) p, ends)
-      | inr other ↦ absurd (wrong (length s) (line, rest) (rw other at e))
+          let p : (x, after) ≡ (text, rest) = done_same {A = List (List ℕ) × List ℕ} (x, after) (text, rest) (rw ends at e) in
+          (ap (λ (q : List (List ℕ) × List ℕ). Some q.0) p, ap (λ (q : List (List ℕ) × List ℕ). q.1) p, ends)
+      | inr other ↦ absurd (wrong (length s) (text, rest) (rw other at e))
     ]
 
-quoted_some : (o : Option Quoted) (s line rest : List ℕ) → quoted o s ≡ Ok (line, rest)
-    → (q : Quoted) × (o ≡ Some q) × (held (line_in q.text) q.rest s ≡ Ok (line, rest))
-quoted_some None s line rest e = absurd cc
-quoted_some (Some q) s line rest e = (q, refl, e)
+quoted_some : (o : Option Quoted) (s : List ℕ) (text : List (List ℕ)) (rest : List ℕ) → quoted o s ≡ Ok (text, rest)
+    → (q : Quoted) × (o ≡ Some q) × (held (text_in q.text) q.rest s ≡ Ok (text, rest))
+quoted_some None s text rest e = absurd cc
+quoted_some (Some q) s text rest e = (q, refl, e)
 
-held_none : (o : Option (List ℕ)) (after s : List ℕ) (left : ℕ) → held o after s ≡ Err left → left ≡ length s
+held_none : (o : Option (List (List ℕ))) (after s : List ℕ) (left : ℕ) → held o after s ≡ Err left → left ≡ length s
 held_none None after s left e = cc
 held_none (Some x) after s left e =
     elim (decide (ends_here after)) [
@@ -365,39 +338,63 @@ held_none (Some x) after s left e =
 
 quoted_none : (o : Option Quoted) (s : List ℕ) (left : ℕ) → quoted o s ≡ Err left → left ≡ length s
 quoted_none None s left e = cc
-quoted_none (Some q) s left e = held_none (line_in q.text) q.rest s left e
+quoted_none (Some q) s left e = held_none (text_in q.text) q.rest s left e
 
-quoted_takes : (s line rest : List ℕ) → quoted (string_at s) s ≡ Ok (line, rest)
-    → (w : List ℕ) × (s ≡ w ++ rest) × IsQuoted line w × (ends_here rest ≡ true)
-quoted_takes s line rest e =
-    let q = quoted_some (string_at s) s line rest e in
-    let h = held_some (line_in q.0.text) q.0.rest s line rest q.2 in
+quoted_takes : (s : List ℕ) (text : List (List ℕ)) (rest : List ℕ) → quoted (string_at s) s ≡ Ok (text, rest)
+    → (w : List ℕ) × (s ≡ w ++ rest) × IsQuoted text w × (ends_here rest ≡ true)
+quoted_takes s text rest e =
+    let q = quoted_some (string_at s) s text rest e in
+    let h = held_some (text_in q.0.text) q.0.rest s text rest q.2 in
     let m = string_at_mark s q.0 q.1 in
     let w = string_sound Plain m.0 q.0 m.2 in
-    let l = line_of_text q.0.text line h.0 in
+    let l = text_of_bytes q.0.text text h.0 in
     let parts : s ≡ (34 ∷ (w.inside ++ (34 ∷ []))) ++ rest =
     m.1 ∙ ap (λ (xs : List ℕ). 34 ∷ xs) (w.parts ∙ rw h.1 (sym (append_assoc w.inside (34 ∷ []) rest))) in (
       34 ∷ (w.inside ++ (34 ∷ [])),
       parts,
-      record { whole = l.0; inside = w.inside; marks = refl; spelled = rw l.1 w.spelled },
+      record { whole = l.whole; some = l.some; inside = w.inside; marks = refl; spelled = rw l.bytes_are w.spelled },
       subst (λ (xs : List ℕ). ends_here xs ≡ true) h.1 h.2,
     )
 
-quoted_gives : (line w rest : List ℕ) → IsQuoted line w → ends_here rest ≡ true
-    → quoted (string_at (w ++ rest)) (w ++ rest) ≡ Ok (line, rest)
+quoted_gives : (text : List (List ℕ)) (w rest : List ℕ) → IsQuoted text w → ends_here rest ≡ true
+    → quoted (string_at (w ++ rest)) (w ++ rest) ≡ Ok (text, rest)
 unfolding string_at
-quoted_gives line w rest is ends =
+quoted_gives text w rest is ends =
     let same : (is.inside ++ 34 ∷ []) ++ rest ≡ is.inside ++ 34 ∷ rest = append_assoc is.inside (34 ∷ []) rest in
-    let read = pieces_read (utf8_of line) is.inside rest is.spelled in
-    rw (is.marks, same, read, line_in-utf8_of line is.whole, ends) refl
+    let read = pieces_read (utf8_of_text text) is.inside rest is.spelled in
+    rw (is.marks, same, read, text_in-utf8_of_text text is.whole is.some, ends) refl
 
-quoted_begins : (line w rest : List ℕ) → IsQuoted line w → starts_otherwise (w ++ rest) ≡ true
-quoted_begins line w rest is = rw is.marks refl
+quoted_begins : (text : List (List ℕ)) (w rest : List ℕ) → IsQuoted text w → starts_otherwise (w ++ rest) ≡ true
+quoted_begins text w rest is = rw is.marks refl
 
 pub quoted_front : Front IsQuoted (λ s. quoted (string_at s) s)
 quoted_front = record {
-  takes = λ s line rest e. quoted_takes s line rest e;
-  gives = λ line w rest is ends. quoted_gives line w rest is ends;
+  takes = λ s text rest e. quoted_takes s text rest e;
+  gives = λ text w rest is ends. quoted_gives text w rest is ends;
   stops = λ s left e. quoted_none (string_at s) s left e;
-  begins = λ line w rest is. quoted_begins line w rest is;
+  begins = λ text w rest is. quoted_begins text w rest is;
 }
+
+-- ---- what is spelled is no longer than its spelling
+
+piece_some : (byte : ℕ) (spelled : List ℕ) → MaySpell byte spelled → 0 < length spelled
+piece_some byte spelled (inl p) = rw p.1 (omega arith)
+piece_some byte spelled (inr (inl p)) = rw p.1 (omega arith)
+piece_some byte spelled (inr (inr (inl p))) = rw p.1 (omega arith)
+piece_some byte spelled (inr (inr (inr (inl p)))) = rw p.1 (omega arith)
+piece_some byte spelled (inr (inr (inr (inr (inl p))))) = rw p.1 (omega arith)
+piece_some byte spelled (inr (inr (inr (inr (inr p))))) = rw p.1 (omega arith)
+
+pub spelled_size : (bytes inside : List ℕ) → MaySpellAll bytes inside → length bytes ≤ length inside
+spelled_size [] inside is = omega arith
+spelled_size (byte ∷ bytes) inside p =
+    let long : length inside ≡ length p.0 + length p.1 = ap length p.2 ∙ length-append p.0 p.1 in
+    omega (arith, long, piece_some byte p.0 p.3, spelled_size bytes p.1 p.4)
+
+-- the text of a string is no longer than the string
+pub string_size : (bytes : List ℕ) (quoted : Quoted) → string_from Plain bytes ≡ Some quoted
+    → length quoted.text ≤ length bytes
+string_size bytes quoted e =
+    let w = string_sound Plain bytes quoted e in
+    let long : length bytes ≡ length w.inside + length (34 ∷ quoted.rest) = ap length w.parts ∙ length-append w.inside (34 ∷ quoted.rest) in
+    omega (arith, long, spelled_size quoted.text w.inside w.spelled)

@@ -1,14 +1,14 @@
 -- A string that is spelled is read again.
-use Rattle.std.proofs.Common.{◌≡◌, ◌≢◌, ℕ, ◌+◌, ◌*◌, ◌/◌, ◌%◌, ◌≤◌, ◌<◌, Bool, true, false, eqb, leb, ltb, List, [], ◌∷◌, ◌++◌, Some, Ok, refl, ap, ◌∙◌, append_assoc, arith, inl, inr, ◌⊎◌}
+use Rattle.std.proofs.Common.{◌≡◌, ◌≢◌, ℕ, ◌+◌, ◌*◌, ◌/◌, ◌%◌, ◌≤◌, ◌<◌, Bool, true, false, eqb, leb, ltb, List, [], ◌∷◌, ◌++◌, length, All, Some, Ok, refl, ap, ◌∙◌, append_assoc, arith, inl, inr, ◌⊎◌}
 use Rattle.std.specs.List.{flat_map, list_any}
 use Rattle.std.proofs.lemmas.Bool.{cases_lt, lt-ltb, le-ltb, le-leb, eqb-true, or_parts}
 use Rattle.std.proofs.lemmas.Bool.Decides.{nat_tests}
-use Rattle.kte_text.specs.Units.{IsLine, is_line_end, utf8_of}
+use Rattle.kte_text.specs.Units.{IsLine}
 use Rattle.kte_script.specs.Words.{skip, ends_here}
-use Rattle.kte_script.specs.Strings.{Plain, Code, hex_value, is_coded, with_byte, string_from, string_at, hex_digit, spell_byte, spell_line}
-use Rattle.kte_script.specs.Fields.{line_at}
+use Rattle.kte_script.specs.Strings.{Plain, Code, hex_value, is_coded, with_byte, string_from, string_at, hex_digit, spell_byte, utf8_of_text, spell_text}
+use Rattle.kte_script.specs.Fields.{text_at}
 use Rattle.kte_script.proofs.AgainLemmas.{skip-one}
-use Rattle.kte_script.proofs.StringLemmas.{line_in-utf8_of, no_ends-utf8}
+use Rattle.kte_script.proofs.PartLemmas.{is_cr, no_cr-text, text_in-utf8_of_text}
 
 digit_again : (n : ℕ) → n < 16 → hex_value (hex_digit n) ≡ Some n
 digit_again n h = grind (arith, nat_tests)
@@ -77,25 +77,25 @@ byte_again byte more not13 =
       ]
     ]
 
-no_cr : (byte : ℕ) → is_line_end byte ≡ false → byte ≢ 13
+no_cr : (byte : ℕ) → is_cr byte ≡ false → byte ≢ 13
 no_cr byte h is = absurd (grind (arith, nat_tests))
 
 -- all bytes, and the closing mark
-bytes_again : (bytes rest : List ℕ) → list_any is_line_end bytes ≡ false
+bytes_again : (bytes rest : List ℕ) → list_any is_cr bytes ≡ false
     → string_from Plain (flat_map spell_byte bytes ++ 34 ∷ rest) ≡ Some (record { text = bytes; rest = rest })
 unfolding string_from
 bytes_again [] rest h = refl
 bytes_again (byte ∷ bytes) rest h =
-    let p = or_parts (is_line_end byte) (list_any is_line_end bytes) h in
+    let p = or_parts (is_cr byte) (list_any is_cr bytes) h in
     let first : string_from Plain (flat_map spell_byte (byte ∷ bytes) ++ 34 ∷ rest) ≡ with_byte byte (string_from Plain (flat_map spell_byte bytes ++ 34 ∷ rest)) =
     rw append_assoc (byte_again byte (flat_map spell_byte bytes ++ 34 ∷ rest) (no_cr byte p.0)) in
     first ∙ ap (with_byte byte) (bytes_again bytes rest p.1)
 
-pub line_again : (line rest : List ℕ) → IsLine line → ends_here rest ≡ true
-    → line_at (spell_line line ++ rest) ≡ Ok (line, rest)
-unfolding line_at spell_line string_at
-line_again line rest whole e =
-    let inside : List ℕ = flat_map spell_byte (utf8_of line) in
+pub text_again : (text : List (List ℕ)) (rest : List ℕ) → All IsLine text → 0 < length text → ends_here rest ≡ true
+    → text_at (spell_text text ++ rest) ≡ Ok (text, rest)
+unfolding text_at spell_text string_at
+text_again text rest whole some e =
+    let inside : List ℕ = flat_map spell_byte (utf8_of_text text) in
     let same : (inside ++ 34 ∷ []) ++ rest ≡ inside ++ 34 ∷ rest = simp append_assoc in
     let from : skip (32 ∷ 34 ∷ inside ++ 34 ∷ rest) ≡ 34 ∷ inside ++ 34 ∷ rest = skip-one 34 (inside ++ 34 ∷ rest) refl in
-    rw (same, from, bytes_again (utf8_of line) rest (no_ends-utf8 line whole), line_in-utf8_of line whole, e) refl
+    rw (same, from, bytes_again (utf8_of_text text) rest (no_cr-text text whole), text_in-utf8_of_text text whole some, e) refl

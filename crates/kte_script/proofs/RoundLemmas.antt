@@ -1,7 +1,6 @@
 -- A command that is spelled is read as itself.
-use Rattle.std.proofs.Common.{◌≡◌, ℕ, ◌+◌, ◌-◌, Bool, true, false, List, [], ◌∷◌, ◌++◌, length, Result, Ok, Some, refl, sym, ap, ◌∙◌, append_assoc, append-nil, arith, lit<}
+use Rattle.std.proofs.Common.{◌≡◌, ℕ, Bool, true, false, List, [], ◌∷◌, ◌++◌, Result, Ok, Some, refl, sym, ap, ◌∙◌, append_assoc, append-nil, arith, lit<}
 use Rattle.std.specs.Prelude.{codes}
-use Rattle.kte_text.specs.declared.primitive.Primitive.TheVariants.{Insert, Wrap, Unwrap, Remove}
 use Rattle.kte_place.specs.declared.place.Place.{Place}
 use Rattle.kte_place.specs.declared.place.TheConstants.{MAX_REACH}
 use Rattle.kte_place.specs.declared.span.Expand.{Expand}
@@ -9,16 +8,17 @@ use Rattle.kte_place.specs.declared.span.Empty.{Empty}
 use Rattle.kte_place.specs.declared.span.Empty.TheVariants.{Allow, Void}
 use Rattle.kte_place.specs.Ends.{Ends}
 use Rattle.kte_place.specs.Place.{IsInReach}
+use Rattle.kte_edit.specs.declared.change.Change.TheVariants as Change
 use Rattle.kte_command.specs.declared.command.Command.{Command}
-use Rattle.kte_command.specs.declared.command.Command.TheVariants.{Put, MakeRange, SetRange, DropRange, ShowRange, Lock, Unlock, Land}
+use Rattle.kte_command.specs.declared.command.Command.TheVariants.{Edit, Begin, End, Undo, Redo, MakeRange, SetRange, DropRange, ShowRange, Lock, Unlock, Land}
 use Rattle.kte_script.specs.Words.{skip, ends_here}
-use Rattle.kte_script.specs.Strings.{spell_line}
-use Rattle.kte_script.specs.Fields.{Kind, Number, APlace, ASpan, OneLine, Quotation, Expands, Empties, Value, Reading, read_field, spell_field, spell_number, spell_place, spell_span, number_at, place_at, span_at, place_on, one_line_at, expand_word, expand_of, expand_at, empty_of, empty_at}
+use Rattle.kte_script.specs.Strings.{spell_text}
+use Rattle.kte_script.specs.Fields.{Kind, Number, APlace, ASpan, AText, Expands, Empties, Value, Reading, read_field, spell_field, spell_number, spell_place, spell_span, number_at, place_at, span_at, expand_word, expand_of, expand_at, empty_of, empty_at}
 use Rattle.kte_script.specs.Table.{Values, Row, filled, table, row_in, spell_fields, spelling}
 use Rattle.kte_script.specs.Reading.{read_fields, row_at, front_at, end_at, command_at}
 use Rattle.kte_script.specs.Limits.{IsSpan, Fits, AllFit, InLimits}
-use Rattle.kte_script.proofs.AgainLemmas.{IsWord, meant_again, word-of, behind-of, skip-word, number_again, same_again}
-use Rattle.kte_script.proofs.QuotedLemmas.{line_again}
+use Rattle.kte_script.proofs.AgainLemmas.{IsWord, meant_again, word-of, behind-of, skip-word, number_again}
+use Rattle.kte_script.proofs.QuotedLemmas.{text_again}
 
 place_again : (place : Place) (rest : List ℕ) → IsInReach place → ends_here rest ≡ true
     → place_at (spell_place place ++ rest) ≡ Ok (place, rest)
@@ -36,23 +36,6 @@ span_again span rest fits e =
     let first = place_again span.start (spell_place span.end ++ rest) fits.reach.start refl in
     let second = place_again span.end rest fits.reach.end e in
     rw (append_assoc (spell_place span.start) (spell_place span.end) rest, first, second, fits.order) refl
-
-place_on_again : (place : Place) (rest : List ℕ) → IsInReach place → ends_here rest ≡ true
-    → place_on place.line (spell_place place ++ rest) ≡ Ok (place, rest)
-unfolding place_on
-place_on_again place rest fits e =
-    let line = same_again place.line (spell_number place.column ++ rest) (omega (arith, fits.0)) refl in
-    let column = number_again MAX_REACH place.column rest fits.1 (omega arith) e in
-    rw (append_assoc (spell_number place.line) (spell_number place.column) rest, line, column) refl
-
-one_line_again : (span : Ends) (rest : List ℕ) → IsSpan span → span.start.line ≡ span.end.line
-    → ends_here rest ≡ true → one_line_at (spell_span span ++ rest) ≡ Ok (span, rest)
-unfolding one_line_at
-one_line_again span rest fits same e =
-    let first = place_again span.start (spell_place span.end ++ rest) fits.reach.start refl in
-    let last : place_on span.start.line (spell_place span.end ++ rest) ≡ Ok (span.end, rest) =
-    rw same (place_on_again span.end rest fits.reach.end e) in
-    rw (append_assoc (spell_place span.start) (spell_place span.end) rest, first, last, fits.order) refl
 
 pub expand_is : (left right : Bool) → IsWord (expand_word left right)
 expand_is false false = record { some = lit< tt; whole = refl }
@@ -86,20 +69,18 @@ field_again : (kind : Kind) (value : Value kind) (rest : List ℕ) → Fits kind
 field_again (Number most) n rest fits e = number_again most n rest fits.0 fits.1 e
 field_again APlace place rest fits e = place_again place rest fits e
 field_again ASpan span rest fits e = span_again span rest fits e
-field_again OneLine span rest fits e = one_line_again span rest fits.0 fits.1 e
-field_again Quotation line rest fits e = line_again line rest fits e
+field_again AText text rest fits e = text_again text rest fits.whole fits.some e
 field_again Expands x rest fits e = expand_again x rest e
 field_again Empties x rest fits e = empty_again x rest e
 
 -- a field begins with a space
 field_starts : (kind : Kind) (value : Value kind) (rest : List ℕ)
     → ends_here (spell_field kind value ++ rest) ≡ true
-unfolding spell_line
+unfolding spell_text
 field_starts (Number most) n rest = refl
 field_starts APlace place rest = refl
 field_starts ASpan span rest = refl
-field_starts OneLine span rest = refl
-field_starts Quotation line rest = refl
+field_starts AText text rest = refl
 field_starts Expands x rest = refl
 field_starts Empties x rest = refl
 
@@ -141,18 +122,16 @@ pub record IsListed (command : Command) : Type 0 where
   pub there : row_in table (filled command).row.word ≡ Some (filled command).row
   pub made : (filled command).row.make (filled command).values ≡ command
 
-past : (n k : ℕ) → (n + k) - n ≡ k
-past n k = omega arith
-
 pub listed : (command : Command) → IsListed command
-listed (Put (Insert line column text)) = record { is = record { some = lit< tt; whole = refl }; there = refl; made = refl }
-listed (Put (Wrap line column)) = record { is = record { some = lit< tt; whole = refl }; there = refl; made = refl }
-listed (Put (Unwrap line)) = record { is = record { some = lit< tt; whole = refl }; there = refl; made = refl }
-listed (Put (Remove line column length)) = record {
-  is = record { some = lit< tt; whole = refl };
-  there = refl;
-  made = ap (λ (n : ℕ). Put (Remove line column n)) (past column length);
-}
+listed (Edit (Change.Insert place text)) = record { is = record { some = lit< tt; whole = refl }; there = refl; made = refl }
+listed (Edit (Change.Wrap place)) = record { is = record { some = lit< tt; whole = refl }; there = refl; made = refl }
+listed (Edit (Change.Unwrap line)) = record { is = record { some = lit< tt; whole = refl }; there = refl; made = refl }
+listed (Edit (Change.Remove span)) = record { is = record { some = lit< tt; whole = refl }; there = refl; made = refl }
+listed (Edit (Change.Replace span text)) = record { is = record { some = lit< tt; whole = refl }; there = refl; made = refl }
+listed Begin = record { is = record { some = lit< tt; whole = refl }; there = refl; made = refl }
+listed End = record { is = record { some = lit< tt; whole = refl }; there = refl; made = refl }
+listed Undo = record { is = record { some = lit< tt; whole = refl }; there = refl; made = refl }
+listed Redo = record { is = record { some = lit< tt; whole = refl }; there = refl; made = refl }
 listed (MakeRange span expand empty) = record { is = record { some = lit< tt; whole = refl }; there = refl; made = refl }
 listed (SetRange id span) = record { is = record { some = lit< tt; whole = refl }; there = refl; made = refl }
 listed (DropRange id) = record { is = record { some = lit< tt; whole = refl }; there = refl; made = refl }

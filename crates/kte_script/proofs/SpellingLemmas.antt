@@ -1,10 +1,13 @@
 -- What is appended, one part after another.
-use Rattle.std.proofs.Common.{◌≡◌, ℕ, ◌≤◌, true, List, [], ◌∷◌, ◌++◌, length, take, drop, refl, sym, ap, ◌∙◌, append_assoc, append-nil, arith}
-use Rattle.std.specs.List.{flat_map, list_all}
-use Rattle.std.proofs.lemmas.List.{length-append, length-take, take-take, take_at, drop_at, take-append-drop}
+use Rattle.std.proofs.Common.{◌≡◌, ℕ, ◌+◌, ◌≤◌, ◌<◌, true, map, List, [], ◌∷◌, ◌++◌, length, take, drop, refl, sym, ap, ◌∙◌, append_assoc, append-nil, arith}
+use Rattle.std.specs.List.{flat_map, join_with_byte, list_all}
+use Rattle.std.proofs.lemmas.List.{length-append, length-map, length-take, length-take-le, map_more, take-take, take_all, take_at, drop_at, take-append-drop}
 use Rattle.std.proofs.lemmas.Bool.{and_parts}
+use Rattle.std.proofs.lemmas.Grind.{flat_map-append}
 use Rattle.std.proofs.lemmas.Bool.Decides.{nat_tests}
-use Rattle.kte_script.specs.Strings.{spell_byte}
+use Rattle.kte_text.specs.Units.{utf8_of}
+use Rattle.kte_text.specs.Texts.{line_at}
+use Rattle.kte_script.specs.Strings.{spell_byte, utf8_of_text, spell_text}
 use Rattle.kte_script.specs.Spelled.{Keeps, is_itself}
 
 -- what was in front of a part is in front of what the part is in front of
@@ -13,10 +16,6 @@ keeps old s mid new e h =
     let le : length old ≤ length mid = rw e (omega (arith, length-append old s)) in
     let front : take (length old) (take (length mid) new) ≡ take (length old) new = take-take (length old) (length mid) new le in
     sym front ∙ ap (take (length old)) (h ∙ e) ∙ take_at old s (length old) refl
-
--- a word without fields
-pub no_field : (old w a : List ℕ) → a ≡ old ++ w → a ≡ old ++ (w ++ [])
-no_field old w a p = p ∙ simp append-nil
 
 -- a word and the fields after it
 pub one_field : (old w f a b : List ℕ) → a ≡ old ++ w → b ≡ a ++ f → b ≡ old ++ (w ++ (f ++ []))
@@ -37,13 +36,6 @@ pub four_fields : (old w f g h i a b c d e : List ℕ) → a ≡ old ++ w → b 
     → e ≡ old ++ (w ++ (f ++ (g ++ (h ++ (i ++ [])))))
 four_fields old w f g h i a b c d e p q r s t =
     t ∙ ap (λ (xs : List ℕ). xs ++ i) (s ∙ ap (λ (xs : List ℕ). xs ++ h) (r ∙ ap (λ (xs : List ℕ). xs ++ g) (q ∙ ap (λ (xs : List ℕ). xs ++ f) p)))
-    ∙ simp (append_assoc, append-nil)
-
--- .. of which one has three words
-pub four_words : (old w f g h a b c d : List ℕ) → a ≡ old ++ w → b ≡ a ++ f → c ≡ b ++ g → d ≡ c ++ h
-    → d ≡ old ++ (w ++ ((f ++ (g ++ h)) ++ []))
-four_words old w f g h a b c d p q r s =
-    s ∙ ap (λ (xs : List ℕ). xs ++ h) (r ∙ ap (λ (xs : List ℕ). xs ++ g) (q ∙ ap (λ (xs : List ℕ). xs ++ f) p))
     ∙ simp (append_assoc, append-nil)
 
 -- a word and three fields, of which the last is not appended
@@ -84,20 +76,62 @@ front_stays old new more start le e =
     let len : length (take start old) ≡ start = omega (arith, length-take start old) in
     ap (take start) e ∙ take_at (take start old) more start len
 
--- the bytes as they are spelled stand between two marks
-pub string_appended : (old mid text raw spelled new : List ℕ) (start : ℕ) → start ≡ length mid
-    → mid ≡ old ++ (32 ∷ 34 ∷ []) → raw ≡ mid ++ text
-    → spelled ≡ take start raw ++ flat_map spell_byte (drop start raw) → new ≡ spelled ++ (34 ∷ [])
-    → new ≡ old ++ (32 ∷ 34 ∷ (flat_map spell_byte text ++ (34 ∷ [])))
-string_appended old mid text raw spelled new start at is_mid is_raw is_spelled is_new =
-    let front : take start raw ≡ mid = ap (take start) is_raw ∙ take_at mid text start (sym at) in
-    let back : drop start raw ≡ text = ap (drop start) is_raw ∙ drop_at mid text start (sym at) in
-    let whole : spelled ≡ mid ++ flat_map spell_byte text = is_spelled ∙ rw (front, back) refl in
-    is_new ∙ rw (whole, is_mid) (simp append_assoc)
+-- a line in UTF-8 whose bytes are spelled where they stand
+pub line_appended : (old text raw new : List ℕ) → raw ≡ old ++ text
+    → new ≡ take (length old) raw ++ flat_map spell_byte (drop (length old) raw) → new ≡ old ++ flat_map spell_byte text
+line_appended old text raw new is_raw is_new =
+    let front : take (length old) raw ≡ old = ap (take (length old)) is_raw ∙ take_at old text (length old) refl in
+    let back : drop (length old) raw ≡ text = ap (drop (length old)) is_raw ∙ drop_at old text (length old) refl in
+    is_new ∙ rw (front, back) refl
 
-pub string_keeps : (old mid text raw new : List ℕ) (start : ℕ) → start ≡ length mid
-    → mid ≡ old ++ (32 ∷ 34 ∷ []) → raw ≡ mid ++ text → take start new ≡ take start raw → Keeps old new
-string_keeps old mid text raw new start at is_mid is_raw h =
-    let front : take start raw ≡ mid = ap (take start) is_raw ∙ take_at mid text start (sym at) in
-    let kept : Keeps mid new = ap (λ n. take n new) (sym at) ∙ h ∙ front in
-    keeps old (32 ∷ 34 ∷ []) mid new is_mid kept
+pub line_keeps : (old text raw new : List ℕ) → raw ≡ old ++ text
+    → take (length old) new ≡ take (length old) raw → Keeps old new
+line_keeps old text raw new is_raw h =
+    h ∙ ap (take (length old)) is_raw ∙ take_at old text (length old) refl
+
+-- ---- texts
+
+join_more : (parts : List (List ℕ)) (part : List ℕ) → 0 < length parts
+    → join_with_byte 10 (parts ++ part ∷ []) ≡ join_with_byte 10 parts ++ 10 ∷ part
+join_more [] part some = absurd (omega arith)
+join_more (first ∷ []) part some = refl
+join_more (first ∷ next ∷ parts) part some =
+    ap (λ (xs : List ℕ). first ++ 10 ∷ xs) (join_more (next ∷ parts) part (omega arith))
+    ∙ sym (append_assoc first (10 ∷ join_with_byte 10 (next ∷ parts)) (10 ∷ part))
+
+-- the spelling of the lines so far, between two marks
+abbrev pub spell_lines : List (List ℕ) → List ℕ
+spell_lines text = flat_map spell_byte (utf8_of_text text)
+
+-- the first line
+pub first_line : (text : List (List ℕ)) → 0 < length text
+    → spell_lines (take 1 text) ≡ flat_map spell_byte (utf8_of (line_at text 0))
+first_line [] some = absurd (omega arith)
+first_line (line ∷ lines) some = refl
+
+-- one line more
+pub next_line : (text : List (List ℕ)) (n : ℕ) → 0 < n → n < length text
+    → spell_lines (take (n + 1) text)
+    ≡ (spell_lines (take n text) ++ 92 ∷ 110 ∷ []) ++ flat_map spell_byte (utf8_of (line_at text n))
+unfolding spell_byte
+next_line text n some there =
+    let parts : List (List ℕ) = map utf8_of (take n text) in
+    let few : length parts ≡ n = length-map (take n text) utf8_of ∙ length-take-le n text (omega arith) in
+    let more : utf8_of_text (take (n + 1) text) ≡ utf8_of_text (take n text) ++ 10 ∷ utf8_of (line_at text n) =
+    ap (join_with_byte 10) (map_more utf8_of text n [] there) ∙ join_more parts (utf8_of (line_at text n)) (omega (arith, few)) in
+    ap (flat_map spell_byte) more
+    ∙ flat_map-append spell_byte (utf8_of_text (take n text)) (10 ∷ utf8_of (line_at text n))
+    ∙ sym (append_assoc (spell_lines (take n text)) (92 ∷ 110 ∷ []) (flat_map spell_byte (utf8_of (line_at text n))))
+
+pub text_more : (old out mid new line : List ℕ) (text : List (List ℕ)) (n : ℕ) → 0 < n → n < length text
+    → out ≡ old ++ 32 ∷ 34 ∷ spell_lines (take n text) → mid ≡ out ++ 92 ∷ 110 ∷ [] → line ≡ line_at text n
+    → new ≡ mid ++ flat_map spell_byte (utf8_of line) → new ≡ old ++ 32 ∷ 34 ∷ spell_lines (take (n + 1) text)
+text_more old out mid new line text n some there is_out is_mid is_line is_new =
+    is_new ∙ rw (is_mid, is_out, is_line, next_line text n some there) (simp append_assoc)
+
+-- the closing mark
+pub text_closed : (old out new : List ℕ) (text : List (List ℕ)) (n : ℕ) → length text ≤ n
+    → out ≡ old ++ 32 ∷ 34 ∷ spell_lines (take n text) → new ≡ out ++ 34 ∷ [] → new ≡ old ++ spell_text text
+unfolding spell_text
+text_closed old out new text n all is_out is_new =
+    is_new ∙ rw (is_out, take_all n text all) (simp append_assoc)

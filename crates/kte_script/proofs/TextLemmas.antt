@@ -1,9 +1,9 @@
 -- A spelling is UTF-8, and its line says the command.
-use Rattle.std.proofs.Common.{◌≡◌, ℕ, ◌+◌, ◌/◌, ◌%◌, ◌^◌, ◌≤◌, ◌<◌, Bool, true, false, cond, nat_eq, nat_lt, List, [], ◌∷◌, ◌++◌, length, All, Ok, refl, sym, ap, ◌∙◌, subst, append-nil, arith, inl, inr, ◌⊎◌}
+use Rattle.std.proofs.Common.{◌≡◌, ℕ, ◌/◌, ◌%◌, ◌^◌, ◌≤◌, ◌<◌, Bool, true, false, nat_eq, nat_lt, List, [], ◌∷◌, ◌++◌, All, refl, ap, ◌∙◌, append-nil, arith, inl, inr, ◌⊎◌}
 use Rattle.std.specs.Prelude.{codes}
 use Rattle.std.specs.Fmt.{decimal}
 use Rattle.std.specs.List.{flat_map, list_all}
-use Rattle.std.specs.Str.{IsUtf8, IsAscii, is_utf8}
+use Rattle.std.specs.Str.{IsUtf8, IsAscii}
 use Rattle.std.specs.Char.Utf16.{utf16_lossy_chars}
 use Rattle.std.proofs.Math.Utf8.{scalar, scalars, encode, encodes}
 use Rattle.std.proofs.lemmas.Bool.{and_parts, cases_lt, lt-ltb, le-ltb, ltb-true}
@@ -11,23 +11,22 @@ use Rattle.std.proofs.lemmas.Bool.Decides.{nat_tests}
 use Rattle.std.proofs.lemmas.Fmt.{IsAscii-decimal}
 use Rattle.std.proofs.lemmas.Grind.{flat_map-append}
 use Rattle.std.proofs.lemmas.List.Elements.{All-head, All-tail}
-use Rattle.std.proofs.lemmas.Str.{IsUtf8-nil, IsUtf8-append, IsUtf8-from_ascii, is_utf8-from_IsUtf8}
+use Rattle.std.proofs.lemmas.Str.{IsUtf8-nil, IsUtf8-append, IsUtf8-from_ascii}
 use Rattle.std.proofs.lemmas.Str.Ascii.{IsAscii-nil, IsAscii-cons}
 use Rattle.kte_text.specs.Units.{IsLine, utf8_of}
-use Rattle.kte_text.specs.declared.primitive.Primitive.TheVariants.{Insert, Wrap, Unwrap, Remove}
 use Rattle.kte_text.proofs.CharLemmas.{Continues, IsMultibyte, encode_shape, scalars-line}
 use Rattle.kte_place.specs.declared.place.Place.{Place}
-use Rattle.kte_place.specs.declared.span.Expand.{Expand}
 use Rattle.kte_place.specs.declared.span.Empty.{Empty}
 use Rattle.kte_place.specs.declared.span.Empty.TheVariants.{Allow, Void}
 use Rattle.kte_place.specs.Ends.{Ends}
 use Rattle.kte_place.specs.Place.{IsInReach}
+use Rattle.kte_edit.specs.declared.change.Change.TheVariants as Change
 use Rattle.kte_command.specs.declared.command.Command.{Command}
-use Rattle.kte_command.specs.declared.command.Command.TheVariants.{Put, MakeRange, SetRange, DropRange, ShowRange, Lock, Unlock, Land}
+use Rattle.kte_command.specs.declared.command.Command.TheVariants.{Edit, Begin, End, Undo, Redo, MakeRange, SetRange, DropRange, ShowRange, Lock, Unlock, Land}
 use Rattle.kte_script.specs.declared.TheConstants.{MAX_DIGITS}
 use Rattle.kte_script.specs.Words.{skip}
-use Rattle.kte_script.specs.Strings.{hex_digit, spell_byte, spell_line}
-use Rattle.kte_script.specs.Fields.{Kind, Number, APlace, ASpan, OneLine, Quotation, Expands, Empties, Value, spell_field, spell_number, spell_place, expand_word, empty_word}
+use Rattle.kte_script.specs.Strings.{hex_digit, spell_byte, utf8_of_text, spell_text}
+use Rattle.kte_script.specs.Fields.{Kind, Number, APlace, ASpan, AText, Expands, Empties, Value, spell_field, spell_number, spell_place, expand_word, empty_word}
 use Rattle.kte_script.specs.Table.{Values, filled, spell_fields, spelling}
 use Rattle.kte_script.specs.Limits.{IsSpan, Fits, AllFit, InLimits}
 use Rattle.kte_script.specs.Script.{Says, is_skipped, meaning}
@@ -125,12 +124,30 @@ marks = IsUtf8-from_ascii (34 ∷ []) (IsAscii-cons 34 [] (omega arith) IsAscii-
 front : IsUtf8 (32 ∷ 34 ∷ [])
 front = IsUtf8-from_ascii (32 ∷ 34 ∷ []) (two 32 34 (omega arith) (omega arith))
 
-line_text : (line : List ℕ) → IsLine line → IsUtf8 (spell_line line)
-unfolding spell_line
-line_text line whole =
-    let inside = flat_map spell_byte (utf8_of line) in
+line_text : (line : List ℕ) → IsLine line → IsUtf8 (flat_map spell_byte (utf8_of line))
+line_text line whole = chars_text (utf16_lossy_chars line) (scalars-line line whole)
+
+end_text : IsUtf8 (spell_byte 10)
+unfolding spell_byte
+end_text = IsUtf8-from_ascii (92 ∷ 110 ∷ []) (two 92 110 (omega arith) (omega arith))
+
+lines_text : (text : List (List ℕ)) → All IsLine text → IsUtf8 (flat_map spell_byte (utf8_of_text text))
+lines_text [] all = IsUtf8-nil
+lines_text (line ∷ []) all = line_text line (All-head IsLine line [] all)
+lines_text (line ∷ next ∷ lines) all =
+    let rest = utf8_of_text (next ∷ lines) in
+    let others = lines_text (next ∷ lines) (All-tail IsLine line (next ∷ lines) all) in
+    rw (flat_map-append spell_byte (utf8_of line) (10 ∷ rest))
+    (IsUtf8-append (flat_map spell_byte (utf8_of line)) (spell_byte 10 ++ flat_map spell_byte rest)
+    (line_text line (All-head IsLine line (next ∷ lines) all))
+    (IsUtf8-append (spell_byte 10) (flat_map spell_byte rest) end_text others))
+
+text_text : (text : List (List ℕ)) → All IsLine text → IsUtf8 (spell_text text)
+unfolding spell_text
+text_text text all =
+    let inside = flat_map spell_byte (utf8_of_text text) in
     IsUtf8-append (32 ∷ 34 ∷ []) (inside ++ 34 ∷ []) front
-    (IsUtf8-append inside (34 ∷ []) (chars_text (utf16_lossy_chars line) (scalars-line line whole)) marks)
+    (IsUtf8-append inside (34 ∷ []) (lines_text text all) marks)
 
 -- ---- fields
 
@@ -161,8 +178,7 @@ field_text : (kind : Kind) (value : Value kind) → Fits kind value → IsUtf8 (
 field_text (Number most) n fits = number_text n fits.1
 field_text APlace place fits = place_text place fits
 field_text ASpan span fits = span_text span fits
-field_text OneLine span fits = span_text span fits.0
-field_text Quotation line fits = line_text line fits
+field_text AText text fits = text_text text fits.whole
 field_text Expands expand fits = expand_text expand.left expand.right
 field_text Empties empty fits = empty_text empty
 
@@ -174,10 +190,15 @@ fields_text (kind ∷ kinds) values fits =
 -- ---- commands
 
 word_text : (command : Command) → IsUtf8 (filled command).row.word
-word_text (Put (Insert line column text)) = low_text (codes "insert") refl
-word_text (Put (Wrap line column)) = low_text (codes "wrap") refl
-word_text (Put (Unwrap line)) = low_text (codes "unwrap") refl
-word_text (Put (Remove line column length)) = low_text (codes "remove") refl
+word_text (Edit (Change.Insert place text)) = low_text (codes "insert") refl
+word_text (Edit (Change.Wrap place)) = low_text (codes "wrap") refl
+word_text (Edit (Change.Unwrap line)) = low_text (codes "unwrap") refl
+word_text (Edit (Change.Remove span)) = low_text (codes "remove") refl
+word_text (Edit (Change.Replace span text)) = low_text (codes "replace") refl
+word_text Begin = low_text (codes "begin") refl
+word_text End = low_text (codes "end") refl
+word_text Undo = low_text (codes "undo") refl
+word_text Redo = low_text (codes "redo") refl
 word_text (MakeRange span expand empty) = low_text (codes "range") refl
 word_text (SetRange id span) = low_text (codes "setrange") refl
 word_text (DropRange id) = low_text (codes "droprange") refl
@@ -187,10 +208,15 @@ word_text (Unlock revision) = low_text (codes "unlock") refl
 word_text (Land revision span expand empty) = low_text (codes "land") refl
 
 no_comment : (command : Command) (rest : List ℕ) → is_skipped ((filled command).row.word ++ rest) ≡ false
-no_comment (Put (Insert line column text)) rest = refl
-no_comment (Put (Wrap line column)) rest = refl
-no_comment (Put (Unwrap line)) rest = refl
-no_comment (Put (Remove line column length)) rest = refl
+no_comment (Edit (Change.Insert place text)) rest = refl
+no_comment (Edit (Change.Wrap place)) rest = refl
+no_comment (Edit (Change.Unwrap line)) rest = refl
+no_comment (Edit (Change.Remove span)) rest = refl
+no_comment (Edit (Change.Replace span text)) rest = refl
+no_comment Begin rest = refl
+no_comment End rest = refl
+no_comment Undo rest = refl
+no_comment Redo rest = refl
 no_comment (MakeRange span expand empty) rest = refl
 no_comment (SetRange id span) rest = refl
 no_comment (DropRange id) rest = refl

@@ -11,8 +11,8 @@ use Rattle.kte_place.specs.declared.span.Empty.TheVariants.{Allow, Void}
 use Rattle.kte_place.specs.Ends.{Ends}
 use Rattle.kte_place.specs.Place.{at}
 use Rattle.kte_place.specs.Span.{between}
-use Rattle.kte_script.specs.Words.{skip, word, behind, ends_here, number_of, same_number}
-use Rattle.kte_script.specs.Strings.{Quoted, string_at, line_in, spell_line}
+use Rattle.kte_script.specs.Words.{skip, word, behind, ends_here, number_of}
+use Rattle.kte_script.specs.Strings.{Quoted, string_at, text_in, spell_text}
 
 pub data Kind : Type 0 where
   -- a number of at most this value
@@ -21,10 +21,8 @@ pub data Kind : Type 0 where
   APlace : Kind
   -- `L C L C`, the two places in either order
   ASpan : Kind
-  -- `L C L C` on one line: the second line number is the first
-  OneLine : Kind
-  -- a string without line ends
-  Quotation : Kind
+  -- a string, the lines of a text
+  AText : Kind
   -- `none`, `left`, `right` or `both`
   Expands : Kind
   -- `allow` or `void`
@@ -34,8 +32,7 @@ abbrev pub Value : Kind → Type 0
 Value (Number most) = ℕ
 Value APlace = Place
 Value ASpan = Ends
-Value OneLine = Ends
-Value Quotation = List ℕ
+Value AText = List (List ℕ)
 Value Expands = Expand
 Value Empties = Empty
 
@@ -61,9 +58,6 @@ word_at meaning bytes = meant (meaning (word (skip bytes))) (skip bytes)
 unfoldable pub number_at : ℕ → List ℕ → Reading ℕ
 number_at most bytes = word_at (number_of most) bytes
 
-unfoldable pub same_at : ℕ → List ℕ → Reading ℕ
-same_at wanted bytes = word_at (same_number wanted) bytes
-
 unfoldable pub place_at : List ℕ → Reading Place
 place_at bytes = do
   line ← number_at MAX_REACH bytes
@@ -76,30 +70,17 @@ span_at bytes = do
   last ← place_at first.1
   Ok (between first.0 last.0, last.1)
 
--- a place on a line that is given: its line number must be just this one
-unfoldable pub place_on : ℕ → List ℕ → Reading Place
-place_on wanted bytes = do
-  line ← same_at wanted bytes
-  column ← number_at MAX_REACH line.1
-  Ok (at line.0 column.0, column.1)
-
-unfoldable pub one_line_at : List ℕ → Reading Ends
-one_line_at bytes = do
-  first ← place_at bytes
-  last ← place_on first.0.line first.1
-  Ok (between first.0 last.0, last.1)
-
-abbrev pub held : Option (List ℕ) → List ℕ → List ℕ → Reading (List ℕ)
+abbrev pub held : Option (List (List ℕ)) → List ℕ → List ℕ → Reading (List (List ℕ))
 held None rest bytes = Err (length bytes)
-held (Some line) rest bytes = if ends_here rest then Ok (line, rest) else Err (length bytes)
+held (Some text) rest bytes = if ends_here rest then Ok (text, rest) else Err (length bytes)
 
-abbrev pub quoted : Option Quoted → List ℕ → Reading (List ℕ)
+abbrev pub quoted : Option Quoted → List ℕ → Reading (List (List ℕ))
 quoted None bytes = Err (length bytes)
-quoted (Some found) bytes = held (line_in found.text) found.rest bytes
+quoted (Some found) bytes = held (text_in found.text) found.rest bytes
 
 -- a string and then a space or the end; where it is none, it does not fit as a whole
-unfoldable pub line_at : List ℕ → Reading (List ℕ)
-line_at bytes = quoted (string_at (skip bytes)) (skip bytes)
+unfoldable pub text_at : List ℕ → Reading (List (List ℕ))
+text_at bytes = quoted (string_at (skip bytes)) (skip bytes)
 
 unfoldable pub expand_of : List ℕ → Option Expand
 expand_of word =
@@ -125,8 +106,7 @@ abbrev pub read_field : (kind : Kind) → List ℕ → Reading (Value kind)
 read_field (Number most) bytes = number_at most bytes
 read_field APlace bytes = place_at bytes
 read_field ASpan bytes = span_at bytes
-read_field OneLine bytes = one_line_at bytes
-read_field Quotation bytes = line_at bytes
+read_field AText bytes = text_at bytes
 read_field Expands bytes = expand_at bytes
 read_field Empties bytes = empty_at bytes
 
@@ -161,7 +141,6 @@ abbrev pub spell_field : (kind : Kind) → Value kind → List ℕ
 spell_field (Number most) n = spell_number n
 spell_field APlace place = spell_place place
 spell_field ASpan span = spell_span span
-spell_field OneLine span = spell_span span
-spell_field Quotation line = spell_line line
+spell_field AText text = spell_text text
 spell_field Expands expand = spell_expand expand
 spell_field Empties empty = spell_empty empty

@@ -1,9 +1,9 @@
 -- What a line says, in words: words are what stands between spaces, and a string ends at its first
 -- mark that is not escaped. Laws say that reading is just this. This project's own form
-use Rattle.std.specs.Prelude.{◌≡◌, ℕ, ◌/◌, ◌%◌, ◌≤◌, ◌⊎◌, Bool, true, List, [], ◌∷◌, ◌++◌, length}
+use Rattle.std.specs.Prelude.{◌≡◌, ℕ, ◌/◌, ◌%◌, ◌≤◌, ◌<◌, ◌⊎◌, Bool, true, List, [], ◌∷◌, ◌++◌, length, All}
 use Rattle.std.specs.List.{list_all}
 use Rattle.std.specs.Str.Parse.{IsNumeral, digits_value}
-use Rattle.kte_text.specs.Units.{IsLine, utf8_of}
+use Rattle.kte_text.specs.Units.{IsLine}
 use Rattle.kte_place.specs.declared.place.Place.{Place}
 use Rattle.kte_place.specs.declared.place.TheConstants.{MAX_REACH}
 use Rattle.kte_place.specs.declared.span.Expand.{Expand}
@@ -13,8 +13,8 @@ use Rattle.kte_place.specs.Span.{between}
 use Rattle.kte_command.specs.declared.command.Command.{Command}
 use Rattle.kte_script.specs.declared.TheConstants.{MAX_DIGITS}
 use Rattle.kte_script.specs.Words.{is_space, is_other, ends_here}
-use Rattle.kte_script.specs.Strings.{is_plain, is_coded, hex_digit}
-use Rattle.kte_script.specs.Fields.{Kind, Number, APlace, ASpan, OneLine, Quotation, Expands, Empties, Value, expand_word, empty_word}
+use Rattle.kte_script.specs.Strings.{is_plain, is_coded, hex_digit, utf8_of_text}
+use Rattle.kte_script.specs.Fields.{Kind, Number, APlace, ASpan, AText, Expands, Empties, Value, expand_word, empty_word}
 use Rattle.kte_script.specs.Table.{Values, Row, table}
 
 -- ---- the first word
@@ -54,10 +54,6 @@ pub record IsNumber (most n : ℕ) (word : List ℕ) : Type 0 where
   pub value : digits_value 10 word ≡ n
   pub small : n ≤ most
 
--- just this number
-abbrev pub IsSame : ℕ → ℕ → List ℕ → Type 0
-IsSame wanted n word = IsNumber wanted n word × (n ≡ wanted)
-
 -- a byte of a string stands for itself, or is written by an escape
 abbrev pub MaySpell : ℕ → List ℕ → Type 0
 MaySpell byte spelled =
@@ -75,12 +71,13 @@ MaySpellAll (byte ∷ bytes) spelled =
     (first : List ℕ) × (others : List ℕ) × (spelled ≡ first ++ others) × MaySpell byte first
     × MaySpellAll bytes others
 
--- a string: the line in UTF-8, its bytes spelled so, between two marks
-pub record IsQuoted (line word : List ℕ) : Type 0 where
-  pub whole : IsLine line
+-- a string: between two marks the lines in UTF-8, an LF between each two, its bytes spelled so
+pub record IsQuoted (text : List (List ℕ)) (word : List ℕ) : Type 0 where
+  pub whole : All IsLine text
+  pub some : 0 < length text
   pub inside : List ℕ
   pub marks : word ≡ 34 ∷ (inside ++ (34 ∷ []))
-  pub spelled : MaySpellAll (utf8_of line) inside
+  pub spelled : MaySpellAll (utf8_of_text text) inside
 
 abbrev pub IsExpand : Expand → List ℕ → Type 0
 IsExpand expand word = word ≡ expand_word expand.left expand.right
@@ -118,21 +115,12 @@ HasPlace = Then at (HasNumber MAX_REACH) (λ line. HasNumber MAX_REACH)
 abbrev pub FailsPlace : List ℕ → ℕ → Type 0
 FailsPlace = ThenFails (HasNumber MAX_REACH) (FailsNumber MAX_REACH) (λ line. FailsNumber MAX_REACH)
 
--- `L C` on a line that is given
-abbrev pub HasPlaceOn : ℕ → Place → List ℕ → List ℕ → Type 0
-HasPlaceOn wanted = Then at (λ n. Begins (IsSame wanted n)) (λ line. HasNumber MAX_REACH)
-
-abbrev pub FailsPlaceOn : ℕ → List ℕ → ℕ → Type 0
-FailsPlaceOn wanted =
-    ThenFails (λ n. Begins (IsSame wanted n)) (Misfits (IsSame wanted)) (λ line. FailsNumber MAX_REACH)
-
 -- bytes begin with a field of this kind and value
 abbrev pub HasField : (kind : Kind) → Value kind → List ℕ → List ℕ → Type 0
 HasField (Number most) = HasNumber most
 HasField APlace = HasPlace
 HasField ASpan = Then between HasPlace (λ first. HasPlace)
-HasField OneLine = Then between HasPlace (λ first. HasPlaceOn first.line)
-HasField Quotation = λ line. Begins (IsQuoted line)
+HasField AText = λ text. Begins (IsQuoted text)
 HasField Expands = λ expand. Begins (IsExpand expand)
 HasField Empties = λ empty. Begins (IsEmpty empty)
 
@@ -141,8 +129,7 @@ abbrev pub FailsField : (kind : Kind) → List ℕ → ℕ → Type 0
 FailsField (Number most) = FailsNumber most
 FailsField APlace = FailsPlace
 FailsField ASpan = ThenFails HasPlace FailsPlace (λ first. FailsPlace)
-FailsField OneLine = ThenFails HasPlace FailsPlace (λ first. FailsPlaceOn first.line)
-FailsField Quotation = Misfits IsQuoted
+FailsField AText = Misfits IsQuoted
 FailsField Expands = Misfits IsExpand
 FailsField Empties = Misfits IsEmpty
 

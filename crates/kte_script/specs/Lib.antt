@@ -1,4 +1,5 @@
 pub mod Words
+pub mod Ends
 pub mod Strings
 pub mod Quotation
 pub mod Fields

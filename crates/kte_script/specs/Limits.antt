@@ -1,12 +1,13 @@
--- The commands that a script can hold: their numbers are within its limits. This project's own rule
-use Rattle.std.specs.Prelude.{◌≡◌, ◌≤◌, ◌<◌, ◌^◌, List, [], ◌∷◌, IsTrue}
-use Rattle.kte_text.specs.Units.{IsLine}
+-- The commands that a script can hold: their numbers and texts are within its limits. This project's
+-- own rule
+use Rattle.std.specs.Prelude.{◌≤◌, ◌<◌, ◌^◌, List, [], ◌∷◌, IsTrue}
+use Rattle.kte_text.specs.Texts.{IsText}
 use Rattle.kte_place.specs.Ends.{Ends}
 use Rattle.kte_place.specs.Place.{IsInReach, is_at_or_before}
-use Rattle.kte_command.specs.Commands.{SpanIsInReach}
+use Rattle.kte_place.specs.Ends.{SpanIsInReach}
 use Rattle.kte_command.specs.declared.command.Command.{Command}
 use Rattle.kte_script.specs.declared.TheConstants.{MAX_DIGITS}
-use Rattle.kte_script.specs.Fields.{Kind, Number, APlace, ASpan, OneLine, Quotation, Expands, Empties, Value}
+use Rattle.kte_script.specs.Fields.{Kind, Number, APlace, ASpan, AText, Expands, Empties, Value}
 use Rattle.kte_script.specs.Table.{Values, filled}
 
 -- two places that may be named, the start at or before the end
@@ -19,8 +20,7 @@ abbrev pub Fits : (kind : Kind) → Value kind → Type 0
 Fits (Number most) n = (n ≤ most) × (n < 10 ^ MAX_DIGITS)
 Fits APlace place = IsInReach place
 Fits ASpan span = IsSpan span
-Fits OneLine span = IsSpan span × (span.start.line ≡ span.end.line)
-Fits Quotation line = IsLine line
+Fits AText text = IsText text
 Fits Expands expand = Unit {0}
 Fits Empties empty = Unit {0}
 

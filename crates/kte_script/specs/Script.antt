@@ -1,18 +1,15 @@
 -- The whole script: its lines, what each of them says, and the first fault. This project's own form
 use denote.Ref.{Bor}
 use Rattle.std.specs.Prelude.{◌≡◌, ◌<◌, ◌==◌, ℕ, ◌+◌, ◌-◌, Bool, true, List, [], ◌∷◌, ◌++◌, length, take, drop, nat_lt, Option, Some, None, Result, Ok, Err, if◌then◌else◌}
-use Rattle.std.specs.List.{slice_split}
 use Rattle.std.specs.Str.{bytes_eq, is_utf8}
 use Rattle.std.specs.Str.Lossy.{utf8_valid_len}
 use Rattle.kte_command.specs.declared.command.Command.{Command}
 use Rattle.kte_script.specs.declared.fault.ScriptFault.{ScriptFault}
 use Rattle.kte_script.specs.declared.fault.ScriptFault.TheVariants as faults
 use Rattle.kte_script.specs.declared.TheConstants.{MAX_SCRIPT_LENGTH, MAX_COMMANDS}
+use Rattle.kte_script.specs.Ends.{parts_of}
 use Rattle.kte_script.specs.Words.{skip}
 use Rattle.kte_script.specs.Reading.{command_at}
-
-abbrev pub is_end : ℕ → Bool
-is_end byte = byte == 10
 
 -- one CR before the LF belongs to the line's end
 abbrev pub without_cr : List ℕ → List ℕ
@@ -27,7 +24,7 @@ ended (line ∷ next ∷ lines) = without_cr line ∷ ended (next ∷ lines)
 
 -- the lines of a script; the last one needs no end, and is empty where the script ends by LF
 abbrev pub lines_of : List ℕ → List (List ℕ)
-lines_of bytes = ended (slice_split is_end bytes)
+lines_of bytes = ended (parts_of bytes)
 
 -- What a line says: nothing, a command, or that the word at this column is at fault, counted in
 -- bytes from 1

@@ -1,11 +1,12 @@
 -- Strings: text between two quotation marks, with escapes. This project's own form
-use Rattle.std.specs.Prelude.{◌==◌, ℕ, ◌+◌, ◌*◌, ◌-◌, ◌/◌, ◌%◌, Bool, List, [], ◌∷◌, ◌++◌, nat_lt, nat_le, ◌&&◌, ◌||◌, not, Option, Some, None, if◌then◌else◌}
+use Rattle.std.specs.Prelude.{◌==◌, ℕ, ◌+◌, ◌*◌, ◌-◌, ◌/◌, ◌%◌, Bool, List, [], ◌∷◌, ◌++◌, nat_lt, nat_le, ◌&&◌, ◌||◌, not, map, Option, Some, None, if◌then◌else◌}
 use Rattle.std.specs.Option.{option_and_then}
-use Rattle.std.specs.List.{flat_map, list_any}
+use Rattle.std.specs.List.{flat_map, join_with_byte, list_any}
 use Rattle.std.specs.Char.{is_ascii_digit}
 use Rattle.std.specs.Str.{is_utf8}
 use Rattle.kte_text.specs.Units.{utf8_of, is_line_end}
 use Rattle.kte_text.specs.Reading.{utf16_of}
+use Rattle.kte_script.specs.Ends.{parts_of}
 
 -- a byte that stands for itself: no control character but the tab, no quotation mark, no backslash
 abbrev pub is_plain : ℕ → Bool
@@ -67,10 +68,24 @@ unfoldable pub string_at : List ℕ → Option Quoted
 string_at [] = None
 string_at (byte ∷ bytes) = if byte == 34 then string_from Plain bytes else None
 
--- the line that a string holds, if it is UTF-8 and no line end is in it
+-- the line that bytes are, if they are UTF-8 and no line end is among them
 unfoldable pub line_in : List ℕ → Option (List ℕ)
-line_in text =
-    if is_utf8 text && not (list_any is_line_end text) then Some (utf16_of text) else None
+line_in bytes =
+    if is_utf8 bytes && not (list_any is_line_end bytes) then Some (utf16_of bytes) else None
+
+abbrev pub with_line : Option (List ℕ) → Option (List (List ℕ)) → Option (List (List ℕ))
+with_line None lines = None
+with_line (Some line) None = None
+with_line (Some line) (Some lines) = Some (line ∷ lines)
+
+-- the lines that these parts are, if each of them is one
+abbrev pub lines_in : List (List ℕ) → Option (List (List ℕ))
+lines_in [] = Some []
+lines_in (part ∷ parts) = with_line (line_in part) (lines_in parts)
+
+-- the text that a string holds: the lines between its LFs
+unfoldable pub text_in : List ℕ → Option (List (List ℕ))
+text_in bytes = lines_in (parts_of bytes)
 
 -- ---- spelling
 
@@ -87,6 +102,10 @@ spell_byte byte =
     else if nat_lt byte 32 then 92 ∷ 120 ∷ hex_digit (byte / 16) ∷ hex_digit (byte % 16) ∷ []
     else byte ∷ []
 
--- the canonical spelling of a line as a string, a space before it
-unfoldable pub spell_line : List ℕ → List ℕ
-spell_line units = 32 ∷ 34 ∷ flat_map spell_byte (utf8_of units) ++ 34 ∷ []
+-- the lines of a text in UTF-8, an LF between each two
+abbrev pub utf8_of_text : List (List ℕ) → List ℕ
+utf8_of_text text = join_with_byte 10 (map utf8_of text)
+
+-- the canonical spelling of a text as a string, a space before it
+unfoldable pub spell_text : List (List ℕ) → List ℕ
+spell_text text = 32 ∷ 34 ∷ flat_map spell_byte (utf8_of_text text) ++ 34 ∷ []

@@ -1,15 +1,13 @@
 -- The table of commands: a row for each, which reading and spelling both follow. This project's own
 -- form
-use Rattle.std.specs.Prelude.{ℕ, ◌+◌, ◌-◌, List, [], ◌∷◌, ◌++◌, codes, Option, Some, None, if◌then◌else◌}
+use Rattle.std.specs.Prelude.{ℕ, List, [], ◌∷◌, ◌++◌, codes, Option, Some, None, if◌then◌else◌}
 use Rattle.std.specs.Str.{bytes_eq}
-use Rattle.kte_text.specs.declared.primitive.Primitive.TheVariants.{Wrap, Unwrap, Insert, Remove}
 use Rattle.kte_place.specs.declared.place.TheConstants.{MAX_REACH}
-use Rattle.kte_place.specs.Place.{at}
-use Rattle.kte_place.specs.Span.{ends}
+use Rattle.kte_edit.specs.declared.change.Change.TheVariants as Change
 use Rattle.kte_command.specs.declared.command.Command.{Command}
-use Rattle.kte_command.specs.declared.command.Command.TheVariants.{Put, MakeRange, SetRange, DropRange, ShowRange, Lock, Unlock, Land}
+use Rattle.kte_command.specs.declared.command.Command.TheVariants.{Edit, Begin, End, Undo, Redo, MakeRange, SetRange, DropRange, ShowRange, Lock, Unlock, Land}
 use Rattle.kte_script.specs.declared.TheConstants.{MAX_ID, MAX_REVISION}
-use Rattle.kte_script.specs.Fields.{Kind, Number, APlace, ASpan, OneLine, Quotation, Expands, Empties, Value, spell_field}
+use Rattle.kte_script.specs.Fields.{Kind, Number, APlace, ASpan, AText, Expands, Empties, Value, spell_field}
 
 -- a value for each field
 abbrev pub Values : List Kind → Type 0
@@ -26,8 +24,8 @@ pub record Row : Type 0 where
 abbrev pub insert_row : Row
 insert_row = record {
   word = codes "insert";
-  kinds = APlace ∷ Quotation ∷ [];
-  make = λ v. Put (Insert v.0.line v.0.column v.1.0);
+  kinds = APlace ∷ AText ∷ [];
+  make = λ v. Edit (Change.Insert v.0 v.1.0);
 }
 
 -- `wrap L C`
@@ -35,7 +33,7 @@ abbrev pub wrap_row : Row
 wrap_row = record {
   word = codes "wrap";
   kinds = APlace ∷ [];
-  make = λ v. Put (Wrap v.0.line v.0.column);
+  make = λ v. Edit (Change.Wrap v.0);
 }
 
 -- `unwrap L`
@@ -43,15 +41,55 @@ abbrev pub unwrap_row : Row
 unwrap_row = record {
   word = codes "unwrap";
   kinds = Number MAX_REACH ∷ [];
-  make = λ v. Put (Unwrap v.0);
+  make = λ v. Edit (Change.Unwrap v.0);
 }
 
--- `remove L C L C`, both places on one line
+-- `remove L C L C`
 abbrev pub remove_row : Row
 remove_row = record {
   word = codes "remove";
-  kinds = OneLine ∷ [];
-  make = λ v. Put (Remove v.0.start.line v.0.start.column (v.0.end.column - v.0.start.column));
+  kinds = ASpan ∷ [];
+  make = λ v. Edit (Change.Remove v.0);
+}
+
+-- `replace L C L C STRING`
+abbrev pub replace_row : Row
+replace_row = record {
+  word = codes "replace";
+  kinds = ASpan ∷ AText ∷ [];
+  make = λ v. Edit (Change.Replace v.0 v.1.0);
+}
+
+-- `begin`
+abbrev pub begin_row : Row
+begin_row = record {
+  word = codes "begin";
+  kinds = [];
+  make = λ v. Begin;
+}
+
+-- `end`
+abbrev pub end_row : Row
+end_row = record {
+  word = codes "end";
+  kinds = [];
+  make = λ v. End;
+}
+
+-- `undo`
+abbrev pub undo_row : Row
+undo_row = record {
+  word = codes "undo";
+  kinds = [];
+  make = λ v. Undo;
+}
+
+-- `redo`
+abbrev pub redo_row : Row
+redo_row = record {
+  word = codes "redo";
+  kinds = [];
+  make = λ v. Redo;
 }
 
 -- `range L C L C EXPAND EMPTY`
@@ -112,8 +150,9 @@ land_row = record {
 
 abbrev pub table : List Row
 table =
-    insert_row ∷ wrap_row ∷ unwrap_row ∷ remove_row ∷ range_row ∷ setrange_row ∷ droprange_row
-    ∷ where_row ∷ lock_row ∷ unlock_row ∷ land_row ∷ []
+    insert_row ∷ wrap_row ∷ unwrap_row ∷ remove_row ∷ replace_row ∷ begin_row ∷ end_row ∷ undo_row
+    ∷ redo_row ∷ range_row ∷ setrange_row ∷ droprange_row ∷ where_row ∷ lock_row ∷ unlock_row
+    ∷ land_row ∷ []
 
 -- the row of a word
 abbrev pub row_in : List Row → List ℕ → Option Row
@@ -127,12 +166,17 @@ pub record Filled : Type 0 where
 
 -- the row and the values that make a command
 abbrev pub filled : Command → Filled
-filled (Put (Insert line column text)) =
-    record { row = insert_row; values = (at line column, (text, tt)) }
-filled (Put (Wrap line column)) = record { row = wrap_row; values = (at line column, tt) }
-filled (Put (Unwrap line)) = record { row = unwrap_row; values = (line, tt) }
-filled (Put (Remove line column length)) =
-    record { row = remove_row; values = (ends (at line column) (at line (column + length)), tt) }
+filled (Edit (Change.Insert place text)) =
+    record { row = insert_row; values = (place, (text, tt)) }
+filled (Edit (Change.Wrap place)) = record { row = wrap_row; values = (place, tt) }
+filled (Edit (Change.Unwrap line)) = record { row = unwrap_row; values = (line, tt) }
+filled (Edit (Change.Remove span)) = record { row = remove_row; values = (span, tt) }
+filled (Edit (Change.Replace span text)) =
+    record { row = replace_row; values = (span, (text, tt)) }
+filled Begin = record { row = begin_row; values = tt }
+filled End = record { row = end_row; values = tt }
+filled Undo = record { row = undo_row; values = tt }
+filled Redo = record { row = redo_row; values = tt }
 filled (MakeRange span expand empty) =
     record { row = range_row; values = (span, (expand, (empty, tt))) }
 filled (SetRange id span) = record { row = setrange_row; values = (id, (span, tt)) }

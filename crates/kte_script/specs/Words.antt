@@ -38,8 +38,3 @@ is_number most word =
 -- the number that a word is, if it is one of at most this value
 unfoldable pub number_of : ℕ → List ℕ → Option ℕ
 number_of most word = if is_number most word then Some (digits_value 10 word) else None
-
--- .. if it is just this one
-unfoldable pub same_number : ℕ → List ℕ → Option ℕ
-same_number wanted word =
-    if is_number wanted word && digits_value 10 word == wanted then Some wanted else None

@@ -4,7 +4,7 @@ ghost use Rattle.std.specs.List.{list_all, position};
 ghost use Rattle.std.specs.Char.{is_ascii_digit};
 ghost use Rattle.std.specs.Str.Parse.{digits_value as value_of};
 ghost use Rattle.kte_script.specs.declared.TheConstants.{MAX_DIGITS};
-ghost use Rattle.kte_script.specs.Words.{skip, word, behind, number_of, same_number};
+ghost use Rattle.kte_script.specs.Words.{skip, word, behind, number_of};
 ghost use Rattle.kte_script.specs.Fields.{expand_of, empty_of};
 
 use crate::MAX_DIGITS;
@@ -12,7 +12,8 @@ use kte_place::{Empty, Expand};
 
 /// Returns the bytes from the first word on.
 pub(crate) fn skip(bytes: &[u8]) -> &[u8]
-    ensures { result.now ≡ skip bytes.now }
+    ensures value { result.now ≡ skip bytes.now }
+    ensures within { length result.now ≤ length bytes.now }
 {
     match first_other(bytes) {
         Some(at) => bytes.split_at(at).1,
@@ -24,6 +25,7 @@ pub(crate) fn skip(bytes: &[u8]) -> &[u8]
 pub(crate) fn split_word(bytes: &[u8]) -> (&[u8], &[u8])
     ensures word { result.0.now ≡ word bytes.now }
     ensures behind { result.1.now ≡ behind bytes.now }
+    ensures within { length result.1.now ≤ length bytes.now }
 {
     match first_space(bytes) {
         Some(at) => bytes.split_at(at),
@@ -57,17 +59,6 @@ pub(crate) fn number_of(most: u32, word: &[u8]) -> Option<u32>
         Some(value as u32)
     } else {
         None
-    }
-}
-
-/// Returns a number if the word is this one.
-#[tactic(auto, unfolding(crate::specs::Words::number_of, crate::specs::Words::same_number))]
-pub(crate) fn same_number(wanted: u32, word: &[u8]) -> Option<u32>
-    ensures { result ≡ same_number wanted word.now }
-{
-    match number_of(wanted, word) {
-        Some(number) if number == wanted => Some(number),
-        _ => None,
     }
 }
 

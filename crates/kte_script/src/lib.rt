@@ -7,6 +7,7 @@
 //! there. `laws` proves that a spelled command reads as itself.
 //!
 //! - `fault`: why a script is refused
+//! - `ends`: where lines end
 //! - `fields`, `quotation`: the words of a line, and strings
 //! - `words`: what is left of a line, and the fields and commands that are taken from it
 //! - `lines`: the lines of a script
@@ -15,6 +16,7 @@
 //! - `laws`: what follows from the definitions alone
 #![tactic(auto)]
 
+mod ends;
 mod fault;
 mod fields;
 pub mod laws;
@@ -30,7 +32,8 @@ pub use fault::ScriptFault;
 pub use script::{Script, read_script};
 pub use spelling::spell;
 
-/// The longest script, in bytes: 2^26.
+/// The longest script, in bytes: 2^26. No text may be larger than that, so that the text of each
+/// string in a script fits.
 pub const MAX_SCRIPT_LENGTH: u64 = 67_108_864;
 
 /// The most commands of a script.

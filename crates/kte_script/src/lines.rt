@@ -1,9 +1,10 @@
 //! The lines of a script, and what each of them says.
-ghost use Rattle.std.specs.Prelude.{◌≡◌, ◌==◌, ◌+◌, ◌^◌, ◌<◌, length, IfSome};
-ghost use Rattle.std.specs.List.{position};
+ghost use Rattle.std.specs.Prelude.{◌≡◌, ◌+◌, ◌^◌, ◌<◌, ◌≤◌, length};
+ghost use Rattle.kte_script.specs.declared.TheConstants.{MAX_SCRIPT_LENGTH};
 ghost use Rattle.kte_script.specs.declared.fault.ScriptFault.TheVariants.{Bad};
 ghost use Rattle.kte_script.specs.Script.{without_cr, is_skipped, meaning, Tells, FirstLine};
 
+use crate::ends::split_end;
 use crate::fault::{ReadError, ScriptFault};
 use crate::fields::skip;
 use crate::words::read_line;
@@ -12,15 +13,13 @@ use std::alloc::Global;
 
 /// Returns the first line, without its end, and the bytes after its end; `None` if no LF ends it.
 pub(crate) fn split_line(bytes: &[u8]) -> (&[u8], Option<&[u8]>)
-    ensures { FirstLine bytes.now result.0.now result.1 }
+    ensures first { FirstLine bytes.now result.0.now result.1 }
+    ensures within { length result.0.now ≤ length bytes.now }
 {
-    match first_end(bytes) {
-        Some(at) => {
-            let (line, _) = bytes.split_at(at);
-            let (_, rest) = bytes.split_at(at + 1);
-            (trimmed(line), Some(rest))
-        }
-        None => (bytes, None),
+    let (line, more) = split_end(bytes);
+    match more {
+        Some(rest) => (trimmed(line), Some(rest)),
+        None => (line, None),
     }
 }
 
@@ -31,6 +30,7 @@ pub(crate) fn command_of(
     number: u64,
     line: &[u8],
 ) -> Result<Option<Command>, ScriptFault>
+    requires { length line.now ≤ MAX_SCRIPT_LENGTH }
     ensures { Tells number result (meaning line.now) }
 {
     if let Err(error) = simdutf8::compat::from_utf8(line) {
@@ -57,16 +57,10 @@ fn bad(line: u64, before: usize) -> ScriptFault
     }
 }
 
-fn first_end(bytes: &[u8]) -> Option<usize>
-    ensures first { result ≡ position (λ byte. byte == 10) bytes.now }
-    ensures within { IfSome result (λ at. at < length bytes.now) }
-{
-    bytes.iter().position(|byte| *byte == b'\n')
-}
-
 /// Returns a line that LF ends without the CR that belongs to its end.
 fn trimmed(line: &[u8]) -> &[u8]
-    ensures { result.now ≡ without_cr line.now }
+    ensures value { result.now ≡ without_cr line.now }
+    ensures within { length result.now ≤ length line.now }
 {
     line.strip_suffix(b"\r").unwrap_or(line)
 }

@@ -1,18 +1,45 @@
 //! Strings.
 ghost use Rattle.std.specs.Prelude.{◌≡◌, ◌∷◌, ◌<◌, ◌≤◌, length, IfOk, IfErr, IfSome, MatchOption, Some, None, not};
 ghost use Rattle.std.specs.List.{position, position_or_len};
+ghost use Rattle.kte_text.specs.declared.TheConstants.{MAX_SIZE};
 ghost use Rattle.kte_script.specs.declared.fault.ReadError.TheVariants.{NoMemory};
-ghost use Rattle.kte_script.specs.Strings.{Plain, Escape, Code, is_plain, hex_value, string_from, line_in};
+ghost use Rattle.kte_script.specs.Strings.{Plain, Escape, Code, is_plain, hex_value, string_from, line_in, text_in};
 ghost use Rattle.kte_script.specs.Quotation.{Takes, StartsOtherwise};
 
+use crate::ends::split_end;
 use crate::fault::ReadError;
-use kte_text::{Line, LineFault};
+use kte_text::{Line, LineFault, Text};
 use std::alloc::Global;
 
-/// Returns the line that a string holds, if it is UTF-8 and has no line end.
+/// Returns the text of a string without escapes: the lines between its LFs, if each is one.
+pub(crate) fn text_of(alloc: Global, bytes: &[u8]) -> Result<Option<Text>, ReadError>
+    requires { length bytes.now ≤ MAX_SIZE }
+    ensures text { IfOk result (λ text. text ≡ text_in bytes.now) }
+    ensures memory { IfErr result (λ error. error ≡ NoMemory) }
+{
+    let (first, mut more) = split_end(bytes);
+    let Some(line) = line_of(alloc, first)? else {
+        return Ok(None);
+    };
+    let mut text = Text::of(alloc, line)?;
+    'lines: loop {
+        let Some(rest) = more else {
+            return Ok(Some(text));
+        };
+        let (part, after) = split_end(rest);
+        let Some(line) = line_of(alloc, part)? else {
+            return Ok(None);
+        };
+        text.push(line)?;
+        more = after;
+    }
+}
+
+/// Returns the line that bytes are, if they are UTF-8 and no line end is among them.
 #[tactic(auto, unfolding(crate::specs::Strings::line_in))]
-pub(crate) fn line_of(alloc: Global, text: &[u8]) -> Result<Option<Line>, ReadError>
+fn line_of(alloc: Global, text: &[u8]) -> Result<Option<Line>, ReadError>
     ensures line { IfOk result (λ line. line ≡ line_in text.now) }
+    ensures short { IfOk result (λ line. IfSome line (λ line. length line ≤ length text.now)) }
     ensures memory { IfErr result (λ error. error ≡ NoMemory) }
 {
     let Ok(text) = simdutf8::basic::from_utf8(text) else {
@@ -31,8 +58,9 @@ pub(crate) fn line_of(alloc: Global, text: &[u8]) -> Result<Option<Line>, ReadEr
 /// Returns the text of a string without escapes and the bytes after its closing mark. Its opening
 /// mark stands before `bytes`.
 pub(crate) fn plain_string(bytes: &[u8]) -> Option<(&[u8], &[u8])>
-    ensures { IfSome result (λ found. string_from Plain bytes.now
+    ensures value { IfSome result (λ found. string_from Plain bytes.now
         ≡ Some (record { text = found.0.now; rest = found.1.now })) }
+    ensures within { IfSome result (λ found. length found.0.now ≤ length bytes.now) }
 {
     let (text, rest) = bytes.split_at(plain_len(bytes));
     let after = closing(rest)?;
@@ -45,6 +73,8 @@ pub(crate) fn string(alloc: Global, bytes: &[u8]) -> Result<Option<(Vec<u8>, &[u
     ensures value { IfOk result (λ found. MatchOption found (string_from Plain bytes.now ≡ None)
         (λ found. string_from Plain bytes.now
         ≡ Some (record { text = found.0.items; rest = found.1.now }))) }
+    ensures within { IfOk result (λ found. IfSome found (λ found.
+        length found.0.items ≤ length bytes.now)) }
     ensures memory { IfErr result (λ error. error ≡ NoMemory) }
 {
     let mut text = Vec::new(alloc);

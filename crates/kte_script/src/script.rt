@@ -98,6 +98,7 @@ pub fn read_script(alloc: Global, bytes: &[u8]) -> Result<Script, ScriptFault>
 
 /// Reads the lines of a script.
 fn read_lines(alloc: Global, bytes: &[u8]) -> Result<Vec<Command>, ScriptFault>
+    requires { length bytes.now ≤ MAX_SCRIPT_LENGTH }
     ensures read { MatchResult result
         (λ commands. read_from 1 MAX_COMMANDS (lines_of bytes.now) ≡ Ok commands.items)
         (λ given. FailsScript given (read_from 1 MAX_COMMANDS (lines_of bytes.now))) }
@@ -125,7 +126,8 @@ fn add_line(
     number: u64,
     line: &[u8],
 ) -> Result<(), ScriptFault>
-    requires { length commands.old.items ≤ MAX_COMMANDS }
+    requires few { length commands.old.items ≤ MAX_COMMANDS }
+    requires short { length line.now ≤ MAX_SCRIPT_LENGTH }
     ensures read { MatchResult result
         (λ _. (lines : List (List ℕ))
         → after_all commands.new.items

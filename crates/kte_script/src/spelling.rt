@@ -2,18 +2,19 @@
 ghost use Rattle.std.specs.Prelude.{◌≡◌, ◌+◌, ◌++◌, ◌<◌, ◌≤◌, take, drop, length, OnOk, OnErr};
 ghost use Rattle.std.specs.Fmt.{decimal};
 ghost use Rattle.std.specs.List.{list_all, flat_map};
-ghost use Rattle.kte_text.specs.declared.primitive.Primitive.TheVariants.{Insert, Wrap, Unwrap, Remove};
-ghost use Rattle.kte_command.specs.declared.command.Command.TheVariants.{Put, MakeRange, SetRange, DropRange, ShowRange, Lock, Unlock, Land};
-ghost use Rattle.kte_script.specs.Strings.{hex_digit, spell_byte, spell_line};
+ghost use Rattle.kte_text.specs.Units.{utf8_of};
+ghost use Rattle.kte_edit.specs.declared.change.Change.TheVariants as Change;
+ghost use Rattle.kte_command.specs.declared.command.Command.TheVariants.{Edit, MakeRange, SetRange, DropRange, ShowRange, Unlock, Land};
+ghost use Rattle.kte_script.specs.Strings.{hex_digit, spell_byte, spell_text};
 ghost use Rattle.kte_script.specs.Fields.{spell_number, spell_place, spell_span, spell_expand, spell_empty};
 ghost use Rattle.kte_script.specs.Table.{spelling};
 ghost use Rattle.kte_script.specs.Spelled.{Keeps, is_itself};
-ghost use Rattle.kte_place.specs.Place.{at};
 
 use itoa::Buffer;
 use kte_command::Command;
+use kte_edit::Change;
 use kte_place::{Empty, Expand, Place, Span};
-use kte_text::{Line, Primitive, push_utf8};
+use kte_text::{Line, Lines, Text, push_utf8};
 use std::alloc::AllocError;
 
 /// Appends the canonical spelling of a command: its word and its fields with one space between
@@ -36,7 +37,11 @@ fn push_command(out: &mut Vec<u8>, command: &Command) -> Result<(), AllocError>
     ensures err { OnErr result (Keeps out.old.items out.new.items) }
 {
     match command {
-        Command::Put { step } => push_step(out, step),
+        Command::Edit { change } => push_change(out, change),
+        Command::Begin => out.extend_from_slice(b"begin"),
+        Command::End => out.extend_from_slice(b"end"),
+        Command::Undo => out.extend_from_slice(b"undo"),
+        Command::Redo => out.extend_from_slice(b"redo"),
         Command::MakeRange {
             span,
             expand,
@@ -45,7 +50,7 @@ fn push_command(out: &mut Vec<u8>, command: &Command) -> Result<(), AllocError>
         Command::SetRange { id, span } => push_setrange(out, *id, span),
         Command::DropRange { id } => push_droprange(out, *id),
         Command::ShowRange { id } => push_where(out, *id),
-        Command::Lock => push_lock(out),
+        Command::Lock => out.extend_from_slice(b"lock"),
         Command::Unlock { revision } => push_unlock(out, *revision),
         Command::Land {
             revision,
@@ -56,62 +61,69 @@ fn push_command(out: &mut Vec<u8>, command: &Command) -> Result<(), AllocError>
     }
 }
 
-fn push_step(out: &mut Vec<u8>, step: &Primitive) -> Result<(), AllocError>
-    ensures ok { OnOk result (out.new.items ≡ out.old.items ++ spelling (Put step.now)) }
+fn push_change(out: &mut Vec<u8>, change: &Change) -> Result<(), AllocError>
+    ensures ok { OnOk result (out.new.items ≡ out.old.items ++ spelling (Edit change.now)) }
     ensures err { OnErr result (Keeps out.old.items out.new.items) }
 {
-    match step {
-        Primitive::Wrap { line, column } => push_wrap(out, *line, *column),
-        Primitive::Unwrap { line } => push_unwrap(out, *line),
-        Primitive::Insert { line, column, text } => push_insert(out, *line, *column, text),
-        Primitive::Remove {
-            line,
-            column,
-            length,
-        } => push_remove(out, *line, *column, *length),
+    match change {
+        Change::Wrap { at } => push_wrap(out, *at),
+        Change::Unwrap { line } => push_unwrap(out, *line),
+        Change::Insert { at, text } => push_insert(out, *at, text),
+        Change::Remove { span } => push_remove(out, span),
+        Change::Replace { span, text } => push_replace(out, span, text),
     }
 }
 
 #[tactic(auto, using(crate::proofs::SpellingLemmas::two_fields, crate::proofs::SpellingLemmas::keeps))]
-fn push_insert(out: &mut Vec<u8>, line: u32, column: u64, text: &Line) -> Result<(), AllocError>
+fn push_insert(out: &mut Vec<u8>, at: Place, text: &Text) -> Result<(), AllocError>
     ensures ok { OnOk result (out.new.items
-        ≡ out.old.items ++ spelling (Put (Insert line column text.now))) }
+        ≡ out.old.items ++ spelling (Edit (Change.Insert at text.now))) }
     ensures err { OnErr result (Keeps out.old.items out.new.items) }
 {
     out.extend_from_slice(b"insert")?;
-    push_place(out, Place { line, column })?;
-    push_line(out, text)
+    push_place(out, at)?;
+    push_text(out, text)
 }
 
 #[tactic(auto, using(crate::proofs::SpellingLemmas::one_field, crate::proofs::SpellingLemmas::keeps))]
-fn push_wrap(out: &mut Vec<u8>, line: u32, column: u64) -> Result<(), AllocError>
+fn push_wrap(out: &mut Vec<u8>, at: Place) -> Result<(), AllocError>
     ensures ok { OnOk result (out.new.items
-        ≡ out.old.items ++ spelling (Put (Wrap line column))) }
+        ≡ out.old.items ++ spelling (Edit (Change.Wrap at))) }
     ensures err { OnErr result (Keeps out.old.items out.new.items) }
 {
     out.extend_from_slice(b"wrap")?;
-    push_place(out, Place { line, column })
+    push_place(out, at)
 }
 
 #[tactic(auto, using(crate::proofs::SpellingLemmas::one_field, crate::proofs::SpellingLemmas::keeps))]
 fn push_unwrap(out: &mut Vec<u8>, line: u32) -> Result<(), AllocError>
-    ensures ok { OnOk result (out.new.items ≡ out.old.items ++ spelling (Put (Unwrap line))) }
+    ensures ok { OnOk result (out.new.items
+        ≡ out.old.items ++ spelling (Edit (Change.Unwrap line))) }
     ensures err { OnErr result (Keeps out.old.items out.new.items) }
 {
     out.extend_from_slice(b"unwrap")?;
     push_number(out, u64::from(line))
 }
 
-#[tactic(auto, using(crate::proofs::SpellingLemmas::four_words, crate::proofs::SpellingLemmas::keeps))]
-fn push_remove(out: &mut Vec<u8>, line: u32, column: u64, length: u64) -> Result<(), AllocError>
+#[tactic(auto, using(crate::proofs::SpellingLemmas::one_field, crate::proofs::SpellingLemmas::keeps))]
+fn push_remove(out: &mut Vec<u8>, span: &Span) -> Result<(), AllocError>
     ensures ok { OnOk result (out.new.items
-        ≡ out.old.items ++ spelling (Put (Remove line column length))) }
+        ≡ out.old.items ++ spelling (Edit (Change.Remove span.now))) }
     ensures err { OnErr result (Keeps out.old.items out.new.items) }
 {
     out.extend_from_slice(b"remove")?;
-    push_place(out, Place { line, column })?;
-    push_number(out, u64::from(line))?;
-    push_sum(out, column, length)
+    push_span(out, span)
+}
+
+#[tactic(auto, using(crate::proofs::SpellingLemmas::two_fields, crate::proofs::SpellingLemmas::keeps))]
+fn push_replace(out: &mut Vec<u8>, span: &Span, text: &Text) -> Result<(), AllocError>
+    ensures ok { OnOk result (out.new.items
+        ≡ out.old.items ++ spelling (Edit (Change.Replace span.now text.now))) }
+    ensures err { OnErr result (Keeps out.old.items out.new.items) }
+{
+    out.extend_from_slice(b"replace")?;
+    push_span(out, span)?;
+    push_text(out, text)
 }
 
 #[tactic(auto, using(crate::proofs::SpellingLemmas::three_fields, crate::proofs::SpellingLemmas::keeps, crate::proofs::SpellingLemmas::keeps_three))]
@@ -159,14 +171,6 @@ fn push_where(out: &mut Vec<u8>, id: u64) -> Result<(), AllocError>
     push_number(out, id)
 }
 
-#[tactic(auto, using(crate::proofs::SpellingLemmas::no_field))]
-fn push_lock(out: &mut Vec<u8>) -> Result<(), AllocError>
-    ensures ok { OnOk result (out.new.items ≡ out.old.items ++ spelling Lock) }
-    ensures err { OnErr result (Keeps out.old.items out.new.items) }
-{
-    out.extend_from_slice(b"lock")
-}
-
 #[tactic(auto, using(crate::proofs::SpellingLemmas::one_field, crate::proofs::SpellingLemmas::keeps))]
 fn push_unlock(out: &mut Vec<u8>, revision: u64) -> Result<(), AllocError>
     ensures ok { OnOk result (out.new.items ≡ out.old.items ++ spelling (Unlock revision)) }
@@ -204,17 +208,6 @@ fn push_number(out: &mut Vec<u8>, number: u64) -> Result<(), AllocError>
     let mut buffer = Buffer::new();
     out.push(b' ')?;
     out.extend_from_slice(buffer.format(number).as_bytes())
-}
-
-/// Appends a space and the sum of two numbers, which may have more than 64 bits.
-#[tactic(auto, using(crate::proofs::SpellingLemmas::keeps))]
-fn push_sum(out: &mut Vec<u8>, a: u64, b: u64) -> Result<(), AllocError>
-    ensures ok { OnOk result (out.new.items ≡ out.old.items ++ spell_number (a + b)) }
-    ensures err { OnErr result (Keeps out.old.items out.new.items) }
-{
-    let mut buffer = Buffer::new();
-    out.push(b' ')?;
-    out.extend_from_slice(buffer.format(u128::from(a) + u128::from(b)).as_bytes())
 }
 
 #[tactic(auto, using(crate::proofs::SpellingLemmas::keeps))]
@@ -257,17 +250,31 @@ fn push_empty(out: &mut Vec<u8>, empty: Empty) -> Result<(), AllocError>
     }
 }
 
-/// Appends a space and a line as a string.
-fn push_line(out: &mut Vec<u8>, line: &Line) -> Result<(), AllocError>
-    ensures ok { OnOk result (out.new.items ≡ out.old.items ++ spell_line line.now) }
+/// Appends a space and a text as a string.
+fn push_text(out: &mut Vec<u8>, text: &Text) -> Result<(), AllocError>
+    ensures ok { OnOk result (out.new.items ≡ out.old.items ++ spell_text text.now) }
     ensures err { OnErr result (Keeps out.old.items out.new.items) }
 {
+    let count = text.lines();
     out.extend_from_slice(b" \"")?;
-    let start = out.len();
-    push_utf8(line.units(), out)?;
-    escape(out, start)?;
+    push_line(out, text.get(0))?;
+    for n in 1..count {
+        out.extend_from_slice(b"\\n")?;
+        push_line(out, text.get(u64::from(n)))?;
+    }
     out.push(b'"')?;
     Ok(())
+}
+
+/// Appends the spelling of a line in a string.
+fn push_line(out: &mut Vec<u8>, line: &Line) -> Result<(), AllocError>
+    ensures ok { OnOk result (out.new.items
+        ≡ out.old.items ++ flat_map spell_byte (utf8_of line.now)) }
+    ensures err { OnErr result (Keeps out.old.items out.new.items) }
+{
+    let start = out.len();
+    push_utf8(line.units(), out)?;
+    escape(out, start)
 }
 
 /// Replaces the bytes from `start` on by their spelling in a string.

@@ -1,6 +1,8 @@
 use crate::{MAX_COMMANDS, Script, ScriptFault, read_script, spell};
 use kte_command::Command;
-use kte_text::{Line, Primitive};
+use kte_edit::Change;
+use kte_place::{Place, Span};
+use kte_text::{Loaded, load};
 use std::alloc::Global;
 use std::test::Fail;
 
@@ -21,7 +23,7 @@ fn spelled(alloc: Global, script: &[u8]) -> Result<String, Fail> {
 #[test]
 fn scripts_are_read(rt: HostRuntime) -> Result<(), Fail> {
     let alloc = rt.alloc();
-    let table: [(&[u8], &str); 15] = [
+    let table: [(&[u8], &str); 25] = [
         (b"", ""),
         (b"\n  \n\r\n# insert 0 0 \"a\n  #", ""),
         (b"insert 0 5 \"!\"", "insert 0 5 \"!\"\n"),
@@ -31,6 +33,22 @@ fn scripts_are_read(rt: HostRuntime) -> Result<(), Fail> {
             "wrap 1073741824 9\nunwrap 1\n",
         ),
         (b"remove 1 5 1 2", "remove 1 2 1 5\n"),
+        (b"remove 2 1 0 3", "remove 0 3 2 1\n"),
+        (b"unwrap 1073741824", "unwrap 1073741824\n"),
+        (b"replace 0 0 2 0 \"z\"", "replace 0 0 2 0 \"z\"\n"),
+        (
+            b" replace 2 0 00 0  \"z\\n\" ",
+            "replace 0 0 2 0 \"z\\n\"\n",
+        ),
+        (b"begin\nundo\n redo \nend\r\n", "begin\nundo\nredo\nend\n"),
+        (b"insert 0 1 \"a\\nb\"", "insert 0 1 \"a\\nb\"\n"),
+        (b"insert 0 0 \"\\n\"", "insert 0 0 \"\\n\"\n"),
+        (b"insert 0 0 \"a\\n\\n\"", "insert 0 0 \"a\\n\\n\"\n"),
+        (b"insert 0 0 \"\"", "insert 0 0 \"\"\n"),
+        (
+            b"insert 0 0 \"\xC3\xA9\\n\\x1f\\n\\\\n\"",
+            "insert 0 0 \"\u{E9}\\n\\x1f\\n\\\\n\"\n",
+        ),
         (b"range 2 0 1 3 left void", "range 1 3 2 0 left void\n"),
         (b"range 0 0 0 0 none allow\n", "range 0 0 0 0 none allow\n"),
         (b"range 0 0 0 1 both void\n", "range 0 0 0 1 both void\n"),
@@ -63,7 +81,7 @@ fn scripts_are_read(rt: HostRuntime) -> Result<(), Fail> {
 #[test]
 fn the_first_fault_is_named(rt: HostRuntime) -> Result<(), Fail> {
     let alloc = rt.alloc();
-    let table: [(&[u8], u64, u64); 47] = [
+    let table: [(&[u8], u64, u64); 69] = [
         (b"lock 0", 1, 6),
         (b"unlock 4294967296", 1, 8),
         (b"land 0 0 0 0 1 none", 1, 20),
@@ -80,14 +98,25 @@ fn the_first_fault_is_named(rt: HostRuntime) -> Result<(), Fail> {
         (b"insert 0 0 \"a\"b", 1, 12),
         (b"insert 0 0 \"a\\q\"", 1, 12),
         (b"insert 0 0 \"a\\\"", 1, 12),
-        (b"insert 0 0 \"\\n\"", 1, 12),
+        (b"insert 0 0 \"a\nb\"", 1, 12),
+        (b"insert 0 0 \"a\rb\"", 1, 12),
+        (b"insert 0 0 \"a\\n", 1, 12),
+        (b"insert 0 0 \"a\\N\"", 1, 12),
+        (b"insert 0 0 \"a\\r\"", 1, 12),
+        (b"insert 0 0 \"a\\\n\"", 1, 12),
+        (b"insert 0 0 \"\\n\\x0a\"", 1, 12),
         (b"insert 0 0 \"\\x0d\"", 1, 12),
         (b"insert 0 0 \"\\x1F\"", 1, 12),
         (b"insert 0 0 \"\\x20\"", 1, 12),
         (b"insert 0 0 \"\x1F\"", 1, 12),
         (b"insert 0 0 \"a\" b", 1, 16),
         (b"Insert 0 0 \"a\"", 1, 1),
-        (b"  begin", 1, 3),
+        (b"  begun", 1, 3),
+        (b"begin 1", 1, 7),
+        (b"begin\nend begin", 2, 5),
+        (b"undo \"a\"", 1, 6),
+        (b"redo\nredo  0\n", 2, 7),
+        (b"end\"", 1, 1),
         (b"wrap x 0", 1, 6),
         (b"wrap 0  ", 1, 9),
         (b"wrap 0  \r\n", 1, 9),
@@ -96,7 +125,18 @@ fn the_first_fault_is_named(rt: HostRuntime) -> Result<(), Fail> {
         (b"wrap 0 0\r", 1, 8),
         (b"wrap 0 0\r\r\n", 1, 8),
         (b"unwrap 12345678901", 1, 8),
-        (b"remove 0 0 1 0", 1, 12),
+        (b"unwrap 1073741825", 1, 8),
+        (b"remove 0 0 1", 1, 13),
+        (b"remove 0 0 1 0 \"z\"", 1, 16),
+        (b"replace", 1, 8),
+        (b"replace 0 0", 1, 12),
+        (b"replace 0 0 \"z\"", 1, 13),
+        (b"replace 0 0 0 \"z\"", 1, 15),
+        (b"replace 0 0 0 0", 1, 16),
+        (b"replace 0 0 0 0 z", 1, 17),
+        (b"replace 0 0 0 0 \"z\" 1", 1, 21),
+        (b"replace 0 1073741825 0 0 \"z\"", 1, 11),
+        (b"replace 0 0 1073741825 0 \"z\"", 1, 13),
         (b"remove 0 0 x 0", 1, 12),
         (b"remove 0 0 1073741825 0", 1, 12),
         (b"remove 0 0 0 y", 1, 14),
@@ -141,30 +181,34 @@ fn a_script_has_at_most_so_many_commands(rt: HostRuntime) -> Result<(), Fail> {
 #[test]
 fn a_script_grows_by_its_commands(rt: HostRuntime) -> Result<(), Fail> {
     let alloc = rt.alloc();
-    let text = Line::from_utf8(alloc, "\u{7}").ok().ok_or("no line")?;
+    let Loaded { text, .. } = load(alloc, b"\x07\nb")?;
     let mut script = Script::new(alloc);
     assert!(rt; script.is_empty());
-    script.push(Command::Put {
-        step: Primitive::Insert {
-            line: 0,
-            column: 10,
-            text,
-        },
+    let at = Place {
+        line: 0,
+        column: 10,
+    };
+    script.push(Command::Edit {
+        change: Change::Insert { at, text },
     })?;
-    script.push(Command::Put {
-        step: Primitive::Remove {
-            line: 1,
-            column: u64::MAX,
-            length: 1,
+    let far = Place {
+        line: 3,
+        column: u64::MAX,
+    };
+    script.push(Command::Edit {
+        change: Change::Remove {
+            span: Span::new(far, at),
         },
     })?;
     assert_eq!(rt; script.len(), 2);
     let mut out = Vec::new(alloc);
     spell(script.get(0), &mut out)?;
-    assert_eq!(rt; out.as_slice(), b"insert 0 10 \"\\x07\"".as_slice());
+    assert_eq!(rt; out.as_slice(), b"insert 0 10 \"\\x07\\nb\"".as_slice());
     out.clear();
     spell(script.get(1), &mut out)?;
-    let want = b"remove 1 18446744073709551615 1 18446744073709551616".as_slice();
-    assert_eq!(rt; out.as_slice(), want);
+    assert_eq!(rt;
+        out.as_slice(),
+        b"remove 0 10 3 18446744073709551615".as_slice()
+    );
     Ok(())
 }

@@ -1,27 +1,30 @@
 //! What is left of a line, from which fields and commands are taken.
-ghost use Rattle.std.specs.Prelude.{◌≡◌};
+ghost use Rattle.std.specs.Prelude.{◌≡◌, ◌≤◌, length};
+ghost use Rattle.kte_text.specs.declared.TheConstants.{MAX_SIZE};
 ghost use Rattle.kte_script.specs.Words.{ends_here};
-ghost use Rattle.kte_script.specs.Fields.{number_at, same_at, place_at, span_at, place_on, one_line_at, line_at, held, expand_at, empty_at};
-ghost use Rattle.kte_script.specs.Table.{insert_row, wrap_row, unwrap_row, remove_row, range_row, setrange_row, droprange_row, where_row, lock_row, unlock_row, land_row};
+ghost use Rattle.kte_script.specs.Fields.{number_at, place_at, span_at, text_at, held, expand_at, empty_at};
+ghost use Rattle.kte_script.specs.Table.{insert_row, wrap_row, unwrap_row, remove_row, replace_row, begin_row, end_row, undo_row, redo_row, range_row, setrange_row, droprange_row, where_row, lock_row, unlock_row, land_row};
 ghost use Rattle.kte_script.specs.Reading.{Gives, Moves, row_at, front_at, end_at, command_at};
 
 use crate::fault::ReadError;
-use crate::fields::{empty_of, expand_of, number_of, same_number, skip, split_word};
-use crate::quotation::{line_of, plain_string, string};
+use crate::fields::{empty_of, expand_of, number_of, skip, split_word};
+use crate::quotation::{plain_string, string, text_of};
 use crate::{MAX_ID, MAX_REVISION};
 use kte_command::Command;
+use kte_edit::Change;
 use kte_place::{Empty, Expand, MAX_REACH, Place, Span};
-use kte_text::{Line, Primitive};
+use kte_text::Text;
 use std::alloc::Global;
 
 /// Returns the command that is all of a line.
 #[tactic(auto, unfolding(crate::specs::Reading::command_at))]
 pub(crate) fn read_line(alloc: Global, line: &[u8]) -> Result<Command, ReadError>
+    requires { length line.now ≤ MAX_SIZE }
     ensures { Gives (λ command. command) result (command_at line.now) }
 {
     let mut words = Words { rest: line };
     let command = words.command(alloc)?;
-    words.end()?;
+    words.finish()?;
     Ok(command)
 }
 
@@ -35,6 +38,7 @@ impl<'a> Words<'a> {
     /// Takes a command.
     #[tactic(auto, unfolding(crate::specs::Reading::front_at))]
     fn command(&mut self, alloc: Global) -> Result<Command, ReadError>
+        requires { length self.old.rest.now ≤ MAX_SIZE }
         ensures { Moves result self.new.rest.now (front_at self.old.rest.now) }
     {
         let bytes = skip(self.rest);
@@ -48,6 +52,16 @@ impl<'a> Words<'a> {
             self.unwrap()
         } else if word == b"remove".as_slice() {
             self.remove()
+        } else if word == b"replace".as_slice() {
+            self.replace(alloc)
+        } else if word == b"begin".as_slice() {
+            self.begin()
+        } else if word == b"end".as_slice() {
+            self.end()
+        } else if word == b"undo".as_slice() {
+            self.undo()
+        } else if word == b"redo".as_slice() {
+            self.redo()
         } else if word == b"range".as_slice() {
             self.range()
         } else if word == b"setrange".as_slice() {
@@ -69,7 +83,7 @@ impl<'a> Words<'a> {
 
     /// Fails if there is a further word.
     #[tactic(auto, unfolding(crate::specs::Reading::end_at))]
-    fn end(&self) -> Result<(), ReadError>
+    fn finish(&self) -> Result<(), ReadError>
         ensures { Gives (λ _. tt) result (end_at self.now.rest.now) }
     {
         let bytes = skip(self.rest);
@@ -82,12 +96,13 @@ impl<'a> Words<'a> {
 
     #[tactic(auto, unfolding(crate::specs::Reading::row_at))]
     fn insert(&mut self, alloc: Global) -> Result<Command, ReadError>
+        requires { length self.old.rest.now ≤ MAX_SIZE }
         ensures { Moves result self.new.rest.now (row_at insert_row self.old.rest.now) }
     {
-        let Place { line, column } = self.place()?;
-        let text = self.line(alloc)?;
-        Ok(Command::Put {
-            step: Primitive::Insert { line, column, text },
+        let at = self.place()?;
+        let text = self.text(alloc)?;
+        Ok(Command::Edit {
+            change: Change::Insert { at, text },
         })
     }
 
@@ -95,9 +110,9 @@ impl<'a> Words<'a> {
     fn wrap(&mut self) -> Result<Command, ReadError>
         ensures { Moves result self.new.rest.now (row_at wrap_row self.old.rest.now) }
     {
-        let Place { line, column } = self.place()?;
-        Ok(Command::Put {
-            step: Primitive::Wrap { line, column },
+        let at = self.place()?;
+        Ok(Command::Edit {
+            change: Change::Wrap { at },
         })
     }
 
@@ -106,8 +121,8 @@ impl<'a> Words<'a> {
         ensures { Moves result self.new.rest.now (row_at unwrap_row self.old.rest.now) }
     {
         let line = self.number(MAX_REACH as u32)?;
-        Ok(Command::Put {
-            step: Primitive::Unwrap { line },
+        Ok(Command::Edit {
+            change: Change::Unwrap { line },
         })
     }
 
@@ -115,15 +130,50 @@ impl<'a> Words<'a> {
     fn remove(&mut self) -> Result<Command, ReadError>
         ensures { Moves result self.new.rest.now (row_at remove_row self.old.rest.now) }
     {
-        let span = self.one_line()?;
-        let Place { line, column } = span.start;
-        Ok(Command::Put {
-            step: Primitive::Remove {
-                line,
-                column,
-                length: span.end.column.saturating_sub(column),
-            },
+        let span = self.span()?;
+        Ok(Command::Edit {
+            change: Change::Remove { span },
         })
+    }
+
+    #[tactic(auto, unfolding(crate::specs::Reading::row_at))]
+    fn replace(&mut self, alloc: Global) -> Result<Command, ReadError>
+        requires { length self.old.rest.now ≤ MAX_SIZE }
+        ensures { Moves result self.new.rest.now (row_at replace_row self.old.rest.now) }
+    {
+        let span = self.span()?;
+        let text = self.text(alloc)?;
+        Ok(Command::Edit {
+            change: Change::Replace { span, text },
+        })
+    }
+
+    #[tactic(auto, unfolding(crate::specs::Reading::row_at))]
+    fn begin(&mut self) -> Result<Command, ReadError>
+        ensures { Moves result self.new.rest.now (row_at begin_row self.old.rest.now) }
+    {
+        Ok(Command::Begin)
+    }
+
+    #[tactic(auto, unfolding(crate::specs::Reading::row_at))]
+    fn end(&mut self) -> Result<Command, ReadError>
+        ensures { Moves result self.new.rest.now (row_at end_row self.old.rest.now) }
+    {
+        Ok(Command::End)
+    }
+
+    #[tactic(auto, unfolding(crate::specs::Reading::row_at))]
+    fn undo(&mut self) -> Result<Command, ReadError>
+        ensures { Moves result self.new.rest.now (row_at undo_row self.old.rest.now) }
+    {
+        Ok(Command::Undo)
+    }
+
+    #[tactic(auto, unfolding(crate::specs::Reading::row_at))]
+    fn redo(&mut self) -> Result<Command, ReadError>
+        ensures { Moves result self.new.rest.now (row_at redo_row self.old.rest.now) }
+    {
+        Ok(Command::Redo)
     }
 
     #[tactic(auto, unfolding(crate::specs::Reading::row_at))]
@@ -212,7 +262,8 @@ impl<'a> Words<'a> {
 
     /// Takes a number of at most this value.
     fn number(&mut self, most: u32) -> Result<u32, ReadError>
-        ensures { Moves result self.new.rest.now (number_at most self.old.rest.now) }
+        ensures moves { Moves result self.new.rest.now (number_at most self.old.rest.now) }
+        ensures within { length self.new.rest.now ≤ length self.old.rest.now }
     {
         let bytes = skip(self.rest);
         let (word, rest) = split_word(bytes);
@@ -223,23 +274,11 @@ impl<'a> Words<'a> {
         Ok(number)
     }
 
-    /// Takes a number that must be this one.
-    fn same(&mut self, wanted: u32) -> Result<u32, ReadError>
-        ensures { Moves result self.new.rest.now (same_at wanted self.old.rest.now) }
-    {
-        let bytes = skip(self.rest);
-        let (word, rest) = split_word(bytes);
-        let Some(number) = same_number(wanted, word) else {
-            return Err(ReadError::Misfit { left: bytes.len() });
-        };
-        self.rest = rest;
-        Ok(number)
-    }
-
     /// Takes a place.
     #[tactic(auto, unfolding(crate::specs::Fields::place_at))]
     fn place(&mut self) -> Result<Place, ReadError>
-        ensures { Moves result self.new.rest.now (place_at self.old.rest.now) }
+        ensures moves { Moves result self.new.rest.now (place_at self.old.rest.now) }
+        ensures within { length self.new.rest.now ≤ length self.old.rest.now }
     {
         let line = self.number(MAX_REACH as u32)?;
         let column = u64::from(self.number(MAX_REACH as u32)?);
@@ -249,30 +288,11 @@ impl<'a> Words<'a> {
     /// Takes a span, its two places in either order.
     #[tactic(auto, unfolding(crate::specs::Fields::span_at))]
     fn span(&mut self) -> Result<Span, ReadError>
-        ensures { Moves result self.new.rest.now (span_at self.old.rest.now) }
+        ensures moves { Moves result self.new.rest.now (span_at self.old.rest.now) }
+        ensures within { length self.new.rest.now ≤ length self.old.rest.now }
     {
         let first = self.place()?;
         let last = self.place()?;
-        Ok(Span::new(first, last))
-    }
-
-    /// Takes a place on this line.
-    #[tactic(auto, unfolding(crate::specs::Fields::place_on))]
-    fn place_on(&mut self, line: u32) -> Result<Place, ReadError>
-        ensures { Moves result self.new.rest.now (place_on line self.old.rest.now) }
-    {
-        let line = self.same(line)?;
-        let column = u64::from(self.number(MAX_REACH as u32)?);
-        Ok(Place { line, column })
-    }
-
-    /// Takes a span on one line.
-    #[tactic(auto, unfolding(crate::specs::Fields::one_line_at))]
-    fn one_line(&mut self) -> Result<Span, ReadError>
-        ensures { Moves result self.new.rest.now (one_line_at self.old.rest.now) }
-    {
-        let first = self.place()?;
-        let last = self.place_on(first.line)?;
         Ok(Span::new(first, last))
     }
 
@@ -302,10 +322,11 @@ impl<'a> Words<'a> {
         Ok(empty)
     }
 
-    /// Takes a string, which is a line.
-    #[tactic(auto, unfolding(crate::specs::Fields::line_at, crate::specs::Strings::string_at))]
-    fn line(&mut self, alloc: Global) -> Result<Line, ReadError>
-        ensures { Moves result self.new.rest.now (line_at self.old.rest.now) }
+    /// Takes a string, which is a text.
+    #[tactic(auto, unfolding(crate::specs::Fields::text_at, crate::specs::Strings::string_at))]
+    fn text(&mut self, alloc: Global) -> Result<Text, ReadError>
+        requires { length self.old.rest.now ≤ MAX_SIZE }
+        ensures { Moves result self.new.rest.now (text_at self.old.rest.now) }
     {
         self.rest = skip(self.rest);
         let [b'"', inside @ ..] = self.rest else {
@@ -313,14 +334,14 @@ impl<'a> Words<'a> {
                 left: self.rest.len(),
             });
         };
-        if let Some((text, rest)) = plain_string(inside) {
-            let line = line_of(alloc, text)?;
-            return self.held(line, rest);
+        if let Some((bytes, rest)) = plain_string(inside) {
+            let text = text_of(alloc, bytes)?;
+            return self.held(text, rest);
         }
         match string(alloc, inside)? {
-            Some((text, rest)) => {
-                let line = line_of(alloc, &text)?;
-                self.held(line, rest)
+            Some((bytes, rest)) => {
+                let text = text_of(alloc, &bytes)?;
+                self.held(text, rest)
             }
             None => Err(ReadError::Misfit {
                 left: self.rest.len(),
@@ -328,14 +349,14 @@ impl<'a> Words<'a> {
         }
     }
 
-    /// Moves behind a string that holds this line, if it is followed by a space or the end.
-    fn held(&mut self, line: Option<Line>, rest: &'a [u8]) -> Result<Line, ReadError>
-        ensures { Moves result self.new.rest.now (held line rest.now self.old.rest.now) }
+    /// Moves behind a string that holds this text, if it is followed by a space or the end.
+    fn held(&mut self, text: Option<Text>, rest: &'a [u8]) -> Result<Text, ReadError>
+        ensures { Moves result self.new.rest.now (held text rest.now self.old.rest.now) }
     {
-        match line {
-            Some(line) if ends_here(rest) => {
+        match text {
+            Some(text) if ends_here(rest) => {
                 self.rest = rest;
-                Ok(line)
+                Ok(text)
             }
             _ => Err(ReadError::Misfit {
                 left: self.rest.len(),

@@ -1,5 +1,5 @@
 -- Matches of a text from the columns of its lines.
-use Rattle.std.proofs.Common.{◌≡◌, ℕ, ◌+◌, ◌<◌, ◌≤◌, List, [], ◌∷◌, ◌++◌, length, IsTrue, arith, refl, sym, subst, inl, inr, ◌⊎◌, ◌↔◌, lit<}
+use Rattle.std.proofs.Common.{◌≡◌, ℕ, zero, suc, ◌+◌, ◌<◌, ◌≤◌, List, [], ◌∷◌, ◌++◌, length, IsTrue, arith, refl, sym, subst, inl, inr, ◌⊎◌, ◌↔◌, lit<}
 use Rattle.std.proofs.lemmas.Bool.Decides.{nat_tests}
 use Rattle.kte_text.specs.Texts.{line_at}
 use Rattle.kte_place.specs.declared.place.Place.{Place}
@@ -7,7 +7,8 @@ use Rattle.kte_place.specs.Ends.{Ends}
 use Rattle.kte_place.specs.Place.{at, is_at_or_before}
 use Rattle.kte_place.specs.Span.{ends}
 use Rattle.kte_search.specs.declared.query.Query.{Query}
-use Rattle.kte_search.specs.Matches.{IsMatch, IsFirst, IsLast, HasNone, AreAll, FollowFrom, end_of_last, MatchesIn}
+use Rattle.kte_search.specs.Matches.{IsMatch, IsFirst, IsLast, HasNone, HasNoneFrom, AreAll, FollowFrom, end_of_last, MatchesIn}
+use Rattle.kte_search.specs.declared.search.TheConstants.{MAX_MATCHES}
 use Rattle.kte_search.specs.Inside.{IsFirstColumn, IsLastColumn, first_column, last_column}
 
 -- two places, each at or before the other
@@ -125,3 +126,21 @@ from_start p = grind (arith, nat_tests)
 pub none_found : (q : Query) (text : List (List ℕ)) (spans : List Ends) → AreAll q text spans → (spans ≡ []) ↔ HasNone q text
 none_found q text [] h = ((λ e t m. h.whole (lit< tt) t m (from_start t.start)), (λ none. refl))
 none_found q text (s ∷ rest) h = ((λ e. absurd (cc)), (λ none. absurd (none s h.in_order.0.is_match)))
+
+one_follow : (q : Query) (text : List (List ℕ)) (room : ℕ) (from : Place) (a b : List Ends)
+    → FollowFrom q text from a → FollowFrom q text from b → length a ≤ room → length b ≤ room
+    → (length a < room → HasNoneFrom q text (end_of_last from a))
+    → (length b < room → HasNoneFrom q text (end_of_last from b)) → a ≡ b
+one_follow q text room from [] [] f g la lb na nb = refl
+one_follow q text room from [] (t ∷ b) f g la lb na nb = absurd (na (omega arith) t g.0.is_match g.0.after)
+one_follow q text room from (s ∷ a) [] f g la lb na nb = absurd (nb (omega arith) s f.0.is_match f.0.after)
+one_follow q text zero from (s ∷ a) (t ∷ b) f g la lb na nb = absurd (omega arith)
+one_follow q text (suc n) from (s ∷ a) (t ∷ b) f g la lb na nb =
+    let e : s ≡ t = one_first q text from s t f.0 g.0 in
+    let rest : a ≡ b = one_follow q text n s.end a b f.1 (subst (λ (x : Ends). FollowFrom q text x.end b) (sym e) g.1)
+    (omega arith) (omega arith) (λ h. na (omega arith))
+    (λ h. subst (λ (x : Ends). HasNoneFrom q text (end_of_last x.end b)) (sym e) (nb (omega arith))) in
+    cc
+
+pub one_all : (q : Query) (text : List (List ℕ)) (a b : List Ends) → AreAll q text a → AreAll q text b → a ≡ b
+one_all q text a b x y = one_follow q text MAX_MATCHES (at 0 0) a b x.in_order y.in_order x.few y.few x.whole y.whole

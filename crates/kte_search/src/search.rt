@@ -1,5 +1,5 @@
 //! The search of a text.
-ghost use Rattle.std.specs.Prelude.{◌≡◌, ◌<◌, ◌↔◌, [], length, IfSome, IfNone, IfOk};
+ghost use Rattle.std.specs.Prelude.{◌≡◌, ◌<◌, ◌↔◌, [], length, IfSome, IfNone, IfOk, IsOk};
 ghost use Rattle.kte_search.specs.Matches.{IsFirst, IsLast, AreAll, HasNoneFrom, HasNoneTo, HasNone};
 ghost use Rattle.kte_search.specs.Inside.{first_column, last_column};
 
@@ -53,6 +53,7 @@ pub fn all<L: Lines>(alloc: Global, lines: &L, query: &Query) -> Result<Spans, A
     ensures all { IfOk result (λ spans. AreAll query.now (L.text lines.now) spans) }
     ensures none { IfOk result (λ spans.
         (spans ≡ []) ↔ HasNone query.now (L.text lines.now)) }
+    ensures refused { HasNone query.now (L.text lines.now) → IsOk result }
 {
     let mut spans = Spans::new(alloc);
     let mut from = Place { line: 0, column: 0 };

@@ -12,3 +12,4 @@ pub mod SavingLemmas
 pub mod LoadsLemmas
 pub mod WordLemmas
 mod Examples
+pub mod AroundLemmas

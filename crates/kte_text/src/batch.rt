@@ -1,4 +1,4 @@
-ghost use Rattle.std.specs.Prelude.{◌≡◌, ℕ, ◌<◌, ◌↔◌, List, [], ◌∷◌, ◌++◌, length, IfOk, OnOk, OnErr, IsTrue, slice_get, Some};
+ghost use Rattle.std.specs.Prelude.{◌≡◌, ℕ, ◌<◌, ◌≤◌, ◌↔◌, List, [], ◌∷◌, ◌++◌, length, take, IfOk, OnOk, OnErr, IsTrue, slice_get, Some};
 
 use crate::primitive::Primitive;
 use std::alloc::{AllocError, Global};
@@ -58,6 +58,14 @@ impl Batch {
         ensures { slice_get self.now n ≡ Some result.now }
     {
         &self.primitives[n as usize]
+    }
+
+    /// Keeps the first `n` primitives and drops the others. Takes no memory.
+    pub fn truncate(&mut self, n: u64)
+        requires { n ≤ length self.old }
+        ensures { self.new ≡ take n self.old }
+    {
+        self.primitives.truncate(n as usize);
     }
 
     /// Returns an equal list.

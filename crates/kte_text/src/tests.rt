@@ -233,6 +233,9 @@ fn a_batch_keeps_its_primitives(rt: HostRuntime) -> Result<(), Fail> {
         "Unwrap { line: 7 }"
     );
     assert!(rt; !copy.get(1).is_empty());
+    batch.truncate(1);
+    assert_eq!(rt; batch.len(), 1);
+    assert_eq!(rt; copy.len(), 2);
     Ok(())
 }
 

@@ -51,3 +51,16 @@ cut_back = refl
 cut_forth : gone_forth 1 (record { depth = 0; current = []; undo = []; redo = (Step.Wrap 1 0 ∷ Step.Wrap 2 0 ∷ []) ∷ [] })
     ≡ record { depth = 0; current = []; undo = (Step.Wrap 1 0 ∷ []) ∷ []; redo = (Step.Wrap 2 0 ∷ []) ∷ [] }
 cut_forth = refl
+
+-- the groups before the last one stay
+second_end : ended (record { depth = 1; current = Step.Wrap 2 0 ∷ []; undo = (Step.Wrap 1 0 ∷ []) ∷ []; redo = [] })
+    ≡ record { depth = 0; current = []; undo = (Step.Wrap 1 0 ∷ []) ∷ (Step.Wrap 2 0 ∷ []) ∷ []; redo = [] }
+second_end = refl
+
+second_back : gone_back 1 (record { depth = 0; current = []; undo = (Step.Wrap 1 0 ∷ []) ∷ (Step.Wrap 2 0 ∷ []) ∷ []; redo = (Step.Wrap 3 0 ∷ []) ∷ [] })
+    ≡ record { depth = 0; current = []; undo = (Step.Wrap 1 0 ∷ []) ∷ []; redo = (Step.Wrap 3 0 ∷ []) ∷ (Step.Wrap 2 0 ∷ []) ∷ [] }
+second_back = refl
+
+second_forth : gone_forth 1 (record { depth = 0; current = []; undo = (Step.Wrap 1 0 ∷ []) ∷ []; redo = (Step.Wrap 3 0 ∷ []) ∷ (Step.Wrap 2 0 ∷ []) ∷ [] })
+    ≡ record { depth = 0; current = []; undo = (Step.Wrap 1 0 ∷ []) ∷ (Step.Wrap 2 0 ∷ []) ∷ []; redo = (Step.Wrap 3 0 ∷ []) ∷ [] }
+second_forth = refl

@@ -14,7 +14,7 @@ use Rattle.kte_text.proofs.LineLemmas.{lone_parts, IsLine-drop, IsLine-append, I
 use Rattle.kte_text.proofs.PrimitiveLemmas.{FitInTurn-append, FitsText-from_misfit, misfit-from_FitsText, IsText-after, after_all-append, length-after_wrap, length-after_unwrap, length-after_insert, length-after_remove, size_of-after_unwrap, size_of-after_remove}
 use Rattle.kte_text.proofs.FlatLemmas.{split_at, split_two, set_line}
 use Rattle.kte_undo.specs.Steps.{inverse, cut_by, old_of, step, forth_of, back_of, redo_of, undo_of, steps_along}
-use Rattle.kte_undo.proofs.AroundLemmas.{line_around, wrap_around, unwrap_around, insert_around, remove_around}
+use Rattle.kte_text.proofs.AroundLemmas.{line_around, wrap_around, unwrap_around, insert_around, remove_around}
 
 -- the lines before one are as many as its number
 before : (text : List (List ℕ)) (n : ℕ) → n < length text → length (take n text) ≡ n

@@ -1,4 +1,3 @@
-pub mod AroundLemmas
 pub mod InverseLemmas
 pub mod GroupLemmas
 mod Examples

@@ -5,8 +5,7 @@ use Rattle.kte_core.specs.React.{react_command}
 use Rattle.kte_core.specs.Shown.{Replies}
 use Rattle.kte_core.specs.declared.reply.Reply.TheVariants as reply
 use Rattle.kte_core.specs.declared.reply.Refusal.TheVariants as refusal
-use Rattle.kte_doc.proofs.Histories.{landed_ok}
-use Rattle.kte_core.proofs.RevisionLemmas.{Replies-landed, Replies-not_locked, landed_err}
+use Rattle.kte_core.proofs.RevisionLemmas.{Replies-landed, Replies-not_locked, landed_ok, landed_err}
 use Rattle.kte_core.proofs.revisions.land.Goals as goal
 
 pub returns-in-Ok : goal.returns-in-Ok

@@ -1,20 +1,28 @@
-use Rattle.std.proofs.Common.{refl, ap, ◌∙◌, ◌++◌, ◌∷◌, [], List}
+use Rattle.std.proofs.Common.{◌≡◌, ◌∙◌, ℕ, List, Vec, Global, Result, Ok, Err, IfOk, length, ap, arith}
 use Rattle.kte_core.specs.Replay.{Session}
 use Rattle.kte_core.specs.declared.event.Event.{Event}
-use Rattle.kte_command.specs.declared.command.Command.{Command}
-use Rattle.kte_core.specs.declared.request.Request.TheVariants.{Cmd}
-use Rattle.kte_run.specs.Run.{commands_in}
-use Rattle.kte_run.proofs.Journals.{commands_in-push}
+use Rattle.kte_run.specs.Output.{output_of}
+use Rattle.kte_run.specs.Run.{Prints}
+use Rattle.kte_run.proofs.Journals.{Asked-length, Prints-session}
 use Rattle.kte_run.proofs.program.edited.Goals as goal
 
-pub loop-command-preserved : goal.loop-command-preserved
-loop-command-preserved c =
-    let event : Event = record { seat = 0; request = Cmd c.in-Some.command; reply = c.in_ok-step.field-0.reply } in (
-      tt,
-      tt,
-      ap (λ (session : Session). session.loaded) c.in_ok-step.ensures.event ∙ c.loop-command.invariant.2,
-      ap (λ (session : Session). session.limit) c.in_ok-step.ensures.event ∙ c.loop-command.invariant.3,
-      ap (λ (session : Session). commands_in session.events) c.in_ok-step.ensures.event
-          ∙ commands_in-push c.loop-command.core.events event c.in-Some.command refl
-          ∙ ap (λ (commands : List Command). commands ++ c.in-Some.command ∷ []) c.loop-command.invariant.4,
-    )
+on_ok : {T E : Type 0} (r : Result T E) (P Q : T → Type 0) → ((value : T) → P value → Q value) → IfOk r P → IfOk r Q
+on_ok (Ok value) P Q f h = f value h
+on_ok (Err error) P Q f h = tt
+
+pub close_all-requires : goal.close_all-requires
+close_all-requires c =
+    let count = Asked-length c.args.commands.items c.in_ok-core.core c.ask_all.new.core c.in_ok-ask_all.ensures in
+    let none = ap (λ (session : Session). length session.events) c.in_ok-core.ensures in
+    let few = c.requires.few in
+    record { few = omega (arith, count, none, few) }
+
+pub returns : goal.returns
+returns c =
+    on_ok c.output.result (λ (output : Vec ℕ Global). output.items ≡ output_of c.journal.result.now c.doc.result.now.text)
+    (λ (output : Vec ℕ Global). Prints c.args.commands.items c.args.loaded output.items)
+    (λ output printed.
+    Prints-session c.args.commands.items c.args.loaded output.items c.doc.result.now.text c.in_ok-core.core c.ask_all.new.core c.close_all.new.core
+    c.in_ok-core.ensures c.in_ok-ask_all.ensures c.in_ok-close_all.ensures c.journal.ensures.legal c.doc.ensures.came.text
+    (printed ∙ ap (λ (events : List Event). output_of events c.doc.result.now.text) c.journal.ensures.events))
+    c.output.ensures

@@ -11,16 +11,16 @@ returns-in-Err c =
 
 pub returns-then-is_skipped : goal.returns-then-is_skipped
 returns-then-is_skipped c =
-    let test = ap is_skipped (sym c.skip.ensures) ∙ sym c.is_skipped.ensures ∙ c.if-is_skipped.true in
+    let test = ap is_skipped (sym c.skip.ensures.value) ∙ sym c.is_skipped.ensures ∙ c.if-is_skipped.true in
     skipped c.args.line.now c.in_default.ensures.cases.1 test
 
 pub returns-in-Ok : goal.returns-in-Ok
 returns-in-Ok c =
-    let test = ap is_skipped (sym c.skip.ensures) ∙ sym c.is_skipped.ensures ∙ c.if-is_skipped.false in
+    let test = ap is_skipped (sym c.skip.ensures.value) ∙ sym c.is_skipped.ensures ∙ c.if-is_skipped.false in
     says c.args.line.now _ c.in_default.ensures.cases.1 test c.in-Ok.ensures
 
 pub returns-in-Err-Misfit : goal.returns-in-Err-Misfit
 returns-in-Err-Misfit c =
-    let test = ap is_skipped (sym c.skip.ensures) ∙ sym c.is_skipped.ensures ∙ c.if-is_skipped.false in
+    let test = ap is_skipped (sym c.skip.ensures.value) ∙ sym c.is_skipped.ensures ∙ c.if-is_skipped.false in
     let read = rw c.in-Err-Misfit.field-0-is at c.in-Err-Misfit.ensures in
     rw (c.bad-in-Err-Misfit.ensures, c.saturating_sub.ensures) (refl, misfits c.args.line.now _ c.in_default.ensures.cases.1 test read)

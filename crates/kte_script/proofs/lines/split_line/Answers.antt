@@ -1,12 +1,7 @@
-use Rattle.std.proofs.Common.{◌∙◌, sym, ap}
-use Rattle.kte_script.specs.Script.{without_cr}
-use Rattle.kte_script.proofs.LineLemmas.{first_line, last_line}
+use Rattle.kte_script.proofs.LineLemmas.{ended_line}
 use Rattle.kte_script.proofs.lines.split_line.Goals as goal
 
-pub returns-in-Some : goal.returns-in-Some
-returns-in-Some c =
-    first_line c.args.bytes.now _ _ c.in-Some.at (sym c.first_end.ensures.first ∙ c.in-Some.is)
-    (c.trimmed.ensures ∙ ap without_cr c.split_at.ensures.front) c.split_at-in-Some.ensures.back
-
-pub returns-in-None : goal.returns-in-None
-returns-in-None c = last_line c.args.bytes.now (sym c.first_end.ensures.first ∙ c.in-None.is)
+pub returns-in-Some-clause-first : goal.returns-in-Some-clause-first
+returns-in-Some-clause-first c =
+    ended_line c.args.bytes.now c.split_end.result.0.now c.trimmed.result.now c.split_end.result.1 c.in-Some.rest
+    c.split_end.ensures.parts c.in-Some.is c.trimmed.ensures.value

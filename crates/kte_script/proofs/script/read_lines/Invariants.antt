@@ -9,6 +9,7 @@ invariant-lines l = record {
       (read_from l.number (MAX_COMMANDS - length l.commands.items) (lines_of l.rest))
       ≡ read_from 1 MAX_COMMANDS (lines_of l.bytes);
   counted : l.number + length l.rest ≤ length l.bytes + 1;
+  short : length l.rest ≤ length l.bytes;
   few : length l.commands.items ≤ MAX_COMMANDS;
 }
 

@@ -1,7 +1,7 @@
 use Rattle.kte_script.proofs.spelling.push_command.Goals as goal
 
-pub returns-in-Put-clause-ok : goal.returns-in-Put-clause-ok
-returns-in-Put-clause-ok c = rw c.in-Put.is c.push_step.ensures.ok
+pub returns-in-Edit-clause-ok : goal.returns-in-Edit-clause-ok
+returns-in-Edit-clause-ok c = rw c.in-Edit.is c.push_change.ensures.ok
 
 pub returns-in-MakeRange-clause-ok : goal.returns-in-MakeRange-clause-ok
 returns-in-MakeRange-clause-ok c = rw c.in-MakeRange.is c.push_range.ensures.ok
@@ -14,9 +14,6 @@ returns-in-DropRange-clause-ok c = rw c.in-DropRange.is c.push_droprange.ensures
 
 pub returns-in-ShowRange-clause-ok : goal.returns-in-ShowRange-clause-ok
 returns-in-ShowRange-clause-ok c = rw c.in-ShowRange.is c.push_where.ensures.ok
-
-pub returns-in-Lock-clause-ok : goal.returns-in-Lock-clause-ok
-returns-in-Lock-clause-ok c = rw c.in-Lock.is c.push_lock.ensures.ok
 
 pub returns-in-Unlock-clause-ok : goal.returns-in-Unlock-clause-ok
 returns-in-Unlock-clause-ok c = rw c.in-Unlock.is c.push_unlock.ensures.ok

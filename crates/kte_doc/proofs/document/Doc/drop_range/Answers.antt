@@ -3,7 +3,8 @@ use Rattle.std.proofs.lemmas.Result.{err_from_is_err_and}
 use Rattle.kte_ranges.specs.declared.table.NoRange.{NoRange}
 use Rattle.std.specs.FinMap.{get, remove}
 use Rattle.kte_ranges.specs.Cursors.{is_among}
-use Rattle.kte_doc.specs.Inside.{farthest_at, CursorsFit}
+use Rattle.kte_doc.specs.Within.{farthest_at}
+use Rattle.kte_doc.specs.Inside.{CursorsFit}
 use Rattle.kte_doc.specs.Documents.{CameBy}
 use Rattle.kte_doc.proofs.Fields.{by_fields}
 use Rattle.kte_doc.proofs.Looks.{found, not_found, was_there, was_not_there}

@@ -2,7 +2,8 @@ use Rattle.std.proofs.Common.{ℕ, ◌+◌, List, length, ◌∙◌, ap, sym, su
 use Rattle.std.specs.FinMap.{insert}
 use Rattle.kte_ranges.specs.declared.info.RangeInfo.{RangeInfo}
 use Rattle.kte_doc.specs.Standings.{new_range}
-use Rattle.kte_doc.specs.Inside.{standings_of, farthest_at, CursorsFit}
+use Rattle.kte_doc.specs.Within.{farthest_at}
+use Rattle.kte_doc.specs.Inside.{standings_of, CursorsFit}
 use Rattle.kte_doc.specs.Documents.{CameBy}
 use Rattle.kte_doc.proofs.Fields.{by_fields}
 use Rattle.kte_doc.proofs.Calls.{IsPut-make}

@@ -2,7 +2,7 @@ use Rattle.std.proofs.Common.{◌<◌, length, arith, ◌∙◌, ap, sym, subst,
 use Rattle.kte_place.specs.Ends.{Ends}
 use Rattle.kte_place.specs.Place.{is_at_or_before}
 use Rattle.kte_doc.proofs.Calls.{hangs_of}
-use Rattle.kte_doc.proofs.OneRange.{span_of-HangAt, span_of-invalid, holds_first, holds_second}
+use Rattle.kte_doc.proofs.OneRange.{span_of-HangAt, span_of-invalid, holds_first, holds_second, settle_ordered}
 use Rattle.kte_doc.proofs.Looks.{answer_none, answer_some, span_at}
 use Rattle.kte_doc.proofs.document.Doc.range.Goals as goal
 
@@ -29,7 +29,8 @@ pub invariant_of-result : goal.invariant_of-result
 invariant_of-result c =
     let at = c.self.invariant.cursors.hang c.args.id c.in-Some.info _ (sym c.get.ensures ∙ c.in-Some.is) c.in-Some-cursors.is in
     let same = span_at _ _ _ c.in-Some.info _ at.0 _ _ c.in-Some-cursors.is at.1 c.place-start.ensures c.place-end.ensures in
-    subst (λ (s : Ends). IsTrue (is_at_or_before s.start s.end)) (sym same) at.1.ordered
+    subst (λ (s : Ends). IsTrue (is_at_or_before s.start s.end)) (sym same)
+    (settle_ordered at.0.start at.0.end c.in-Some.info.empty at.0 at.1.stands.settled)
 
 pub returns-clause-span : goal.returns-clause-span
 returns-clause-span c =
@@ -44,4 +45,4 @@ returns-clause-lines c =
     let same = span_at _ _ _ c.in-Some.info _ at.0 _ _ c.in-Some-cursors.is at.1 c.place-start.ensures c.place-end.ensures in
     let text = ap (λ d. length d.text) c.self.view_is in
     subst (λ (s : Ends). (s.start.line < length c.args.self.now.text) × (s.end.line < length c.args.self.now.text)) (sym same)
-    (omega (arith, at.1.start_within.line, text), omega (arith, at.1.end_within.line, text))
+    (omega (arith, at.1.stands.start_within.line, text), omega (arith, at.1.stands.end_within.line, text))

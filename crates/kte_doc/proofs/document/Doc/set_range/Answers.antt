@@ -5,7 +5,8 @@ use Rattle.kte_place.specs.Span.{made}
 use Rattle.kte_ranges.specs.declared.info.RangeInfo.{RangeInfo}
 use Rattle.kte_ranges.specs.Table.{reset}
 use Rattle.kte_doc.specs.Standings.{Standing, reset_to}
-use Rattle.kte_doc.specs.Inside.{standing_of, standings_of, farthest_at, CursorsFit}
+use Rattle.kte_doc.specs.Within.{farthest_at}
+use Rattle.kte_doc.specs.Inside.{standing_of, standings_of, CursorsFit}
 use Rattle.kte_doc.specs.Documents.{CameBy}
 use Rattle.kte_doc.proofs.Fields.{by_fields}
 use Rattle.kte_doc.proofs.Calls.{hangs_of, still_hangs, IsPut-set}

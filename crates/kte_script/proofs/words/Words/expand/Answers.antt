@@ -7,10 +7,10 @@ use Rattle.kte_script.proofs.words.Words.expand.Goals as goal
 pub returns-in_default : goal.returns-in_default
 unfolding expand_at
 returns-in_default c =
-    word_bad expand_of c.args.self.now.rest.now _ _ c.skip-bytes.ensures c.split_word.ensures.word (sym c.expand_of.ensures ∙ c.in_default.is)
+    word_bad expand_of c.args.self.now.rest.now _ _ c.skip-bytes.ensures.value c.split_word.ensures.word (sym c.expand_of.ensures ∙ c.in_default.is)
 
 pub returns : goal.returns
 unfolding expand_at
 returns c =
-    word_ok expand_of c.args.self.now.rest.now _ _ _ c.in-Some.expand c.skip-bytes.ensures c.split_word.ensures.word
+    word_ok expand_of c.args.self.now.rest.now _ _ _ c.in-Some.expand c.skip-bytes.ensures.value c.split_word.ensures.word
     c.split_word.ensures.behind (sym c.expand_of.ensures ∙ c.in-Some.is)

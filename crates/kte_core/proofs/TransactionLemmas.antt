@@ -1,0 +1,285 @@
+-- The primitives made are those of the finished transactions and of the open one.
+use Rattle.std.proofs.Common.{◌≡◌, ℕ, ◌+◌, ◌-◌, ◌<◌, ◌≤◌, ◌==◌, Bool, true, false, List, [], ◌∷◌, ◌++◌, length, take, Option, None, Some, refl, ap, sym, ◌∙◌, inl, inr, arith, append-nil}
+use Rattle.std.specs.Option.{option_to_list}
+use Rattle.std.specs.FinMap.{get}
+use Rattle.std.proofs.lemmas.Bool.{cases_Bool, eq-eqb, eqb-true, eqb-false, ne_eqb}
+use Rattle.std.proofs.lemmas.List.{map-append}
+use Rattle.kte_text.specs.Primitives.{FitInTurn, after, after_all}
+use Rattle.kte_text.specs.declared.primitive.Primitive.{Primitive}
+use Rattle.kte_place.specs.Ends.{Ends}
+use Rattle.kte_place.specs.declared.span.Expand.{Expand}
+use Rattle.kte_place.specs.declared.span.Empty.{Empty}
+use Rattle.kte_history.specs.declared.lock.Owner.TheVariants.{Editor}
+use Rattle.kte_history.specs.Locks.{has_lock}
+use Rattle.kte_edit.specs.Steps.{steps_of}
+use Rattle.kte_undo.specs.Steps.{steps_along, redo_of, forth_of}
+use Rattle.kte_undo.specs.Groups.{Edits, begun, closed, ended, gone_back, gone_forth}
+use Rattle.kte_undo.specs.declared.step.Step.{Step}
+use Rattle.kte_undo.proofs.InverseLemmas.{redoes}
+use Rattle.kte_command.specs.declared.command.Command.{Command}
+use Rattle.kte_command.specs.declared.command.Command.TheVariants.{Edit, Begin, End, Undo, Redo, MakeRange, SetRange, DropRange, ShowRange, Lock, Unlock, Land}
+use Rattle.kte_core.specs.Editing.{Editing, EditReaction, text_of, judged, not_open, if_made, finished_at, noted_all, noted_change, carried, changed, undone, redone, undo_steps, redo_steps, change_refusal, group_refusal, closing, cut_reaction}
+use Rattle.kte_core.specs.React.{State, Range, Reaction, react, react_by, react_command, edited, cut_at, CutsBetween, set_range, drop_range, show_range, unlock, land, can_land_from}
+use Rattle.kte_core.specs.Replay.{primitives_in}
+use Rattle.kte_core.specs.declared.reply.Reply.{Reply}
+use Rattle.kte_core.specs.declared.reply.Reply.TheVariants as reply
+use Rattle.kte_core.specs.declared.reply.Refusal.{Refusal}
+use Rattle.kte_core.specs.declared.request.Request.{Request}
+use Rattle.kte_core.specs.declared.request.Request.TheVariants.{Cmd}
+
+-- A reaction that edits nothing: the number of the next range rises by one at most
+pub record IsStill (state : State) (reaction : Reaction) : Type 0 where
+  pub editing : reaction.after.editing ≡ state.editing
+  pub made : reaction.made ≡ []
+  pub finished : reaction.finished ≡ None
+  pub next_id : reaction.after.next_id ≤ state.next_id + 1
+  pub uncut : cut_at reaction.reply ≡ None
+
+pub still-make : (state : State) (span : Ends) (expand : Expand) (empty : Empty) → IsStill state (react_command state (MakeRange span expand empty))
+still-make state span expand empty = record { editing = refl; made = refl; finished = refl; next_id = omega arith; uncut = refl }
+
+pub still-lock : (state : State) → IsStill state (react_command state Lock)
+still-lock state = record { editing = refl; made = refl; finished = refl; next_id = omega arith; uncut = refl }
+
+pub still-set : (state : State) (id : ℕ) (span : Ends) (found : Option Range) → IsStill state (set_range state id span found)
+still-set state id span None = record { editing = refl; made = refl; finished = refl; next_id = omega arith; uncut = refl }
+still-set state id span (Some range) = record { editing = refl; made = refl; finished = refl; next_id = omega arith; uncut = refl }
+
+pub still-drop : (state : State) (id : ℕ) (found : Option Range) → IsStill state (drop_range state id found)
+still-drop state id None = record { editing = refl; made = refl; finished = refl; next_id = omega arith; uncut = refl }
+still-drop state id (Some range) = record { editing = refl; made = refl; finished = refl; next_id = omega arith; uncut = refl }
+
+pub still-show : (state : State) (id : ℕ) (found : Option Range) → IsStill state (show_range state id found)
+still-show state id None = record { editing = refl; made = refl; finished = refl; next_id = omega arith; uncut = refl }
+still-show state id (Some range) = record { editing = refl; made = refl; finished = refl; next_id = omega arith; uncut = refl }
+
+pub still-unlock : (state : State) (revision : ℕ) (owned : Bool) → IsStill state (unlock state revision owned)
+still-unlock state revision true = record { editing = refl; made = refl; finished = refl; next_id = omega arith; uncut = refl }
+still-unlock state revision false = record { editing = refl; made = refl; finished = refl; next_id = omega arith; uncut = refl }
+
+pub still-land : (state : State) (revision : ℕ) (span : Ends) (expand : Expand) (empty : Empty) (may : Bool)
+    → IsStill state (land state revision span expand empty may)
+still-land state revision span expand empty true = record { editing = refl; made = refl; finished = refl; next_id = omega arith; uncut = refl }
+still-land state revision span expand empty false = record { editing = refl; made = refl; finished = refl; next_id = omega arith; uncut = refl }
+
+-- the depth after each step of the groups
+depth-closed : (steps : List Step) (edits : Edits) → (closed steps edits).depth ≡ edits.depth
+depth-closed [] edits = refl
+depth-closed (first ∷ steps) edits = refl
+
+pub depth-ended : (edits : Edits) → (ended edits).depth ≡ edits.depth - 1
+depth-ended edits =
+    elim (cases_Bool (edits.depth == 1)) [
+      | inl t ↦ rw t (depth-closed edits.current (record edits { depth = 0 }) ∙ omega (arith, eqb-true edits.depth 1 t))
+      | inr f ↦ rw f refl
+    ]
+
+pub depth-noted : (steps : List Step) (edits : Edits) → (noted_change steps edits).depth ≡ edits.depth
+depth-noted steps edits =
+    elim (cases_Bool (edits.depth == 0)) [
+      | inl t ↦ rw t (depth-ended (noted_all steps (begun edits)) ∙ omega arith)
+      | inr f ↦ rw f refl
+    ]
+
+-- The primitives of the open transaction and those made are those of the finished one, if one is
+-- finished, and those of the one that is open then
+pub record Parts (before : Editing) (made : List Primitive) (finished : Option (List Primitive)) (after : Editing) : Type 0 where
+  pub trail : after.trail ≡ before.trail ++ made
+  pub parts : redo_of before.edits.current ++ made ≡ primitives_in (option_to_list finished) ++ redo_of after.edits.current
+
+-- nothing is made
+parts-none : (editing : Editing) → Parts editing [] None editing
+parts-none editing = record { trail = sym (append-nil editing.trail); parts = append-nil (redo_of editing.edits.current) }
+
+parts-judged : (judgement : Option Refusal) (editing : Editing) (made : EditReaction)
+    → (FitInTurn made.after.trail editing.loaded.text → judgement ≡ None → Parts editing made.made made.finished made.after)
+    → FitInTurn (judged judgement editing made).after.trail editing.loaded.text
+    → Parts editing (judged judgement editing made).made (judged judgement editing made).finished (judged judgement editing made).after
+parts-judged None editing made h fit = h fit refl
+parts-judged (Some cause) editing made h fit = parts-none editing
+
+-- primitives that are a transaction of their own
+alone : (ps : List Primitive) → ps ≡ primitives_in (option_to_list (if_made ps)) ++ []
+alone [] = refl
+alone (p ∷ ps) = sym (append-nil ((p ∷ ps) ++ []) ∙ append-nil (p ∷ ps))
+
+parts-alone : (editing : Editing) (ps : List Primitive) (edits : Edits) (told : ℕ → ℕ → ℕ → Reply) → editing.edits.current ≡ []
+    → edits.depth ≡ 0 → edits.current ≡ []
+    → Parts editing ps (carried told editing ps edits).finished (record editing { trail = editing.trail ++ ps; edits = edits })
+parts-alone editing ps edits told none shut still_none =
+    let t : (edits.depth == 0) ≡ true = eq-eqb edits.depth 0 shut in
+    record {
+      trail = refl;
+      parts = rw (none, t, still_none) (alone ps);
+    }
+
+-- the later ones of primitives that fit in turn fit the text after the first ones
+pub FitInTurn-later : (ps qs : List Primitive) (text : List (List ℕ)) → FitInTurn (ps ++ qs) text → FitInTurn qs (after_all ps text)
+FitInTurn-later [] qs text fit = fit
+FitInTurn-later (p ∷ ps) qs text (none, some, rest) = FitInTurn-later ps qs (after p text) rest
+
+none-closed : (steps : List Step) (edits : Edits) → edits.current ≡ steps → (closed steps edits).current ≡ []
+none-closed [] edits is = is
+none-closed (first ∷ steps) edits is = refl
+
+none-ended : (edits : Edits) → edits.depth ≡ 1 → (ended edits).current ≡ []
+none-ended edits one =
+    let t : (edits.depth == 1) ≡ true = eq-eqb edits.depth 1 one in
+    rw t (none-closed edits.current (record edits { depth = 0 }) refl)
+
+parts-changed : (told : ℕ → ℕ → ℕ → Reply) (editing : Editing) (ps : List Primitive) → (editing.edits.depth ≡ 0 → editing.edits.current ≡ [])
+    → FitInTurn (editing.trail ++ ps) editing.loaded.text
+    → Parts editing ps (changed told editing ps).finished (changed told editing ps).after
+parts-changed told editing ps shut fit =
+    let edits = editing.edits in
+    let steps = steps_along ps (text_of editing) in
+    let later = noted_change steps edits in
+    elim (cases_Bool (edits.depth == 0)) [
+      | inl t ↦
+          let zero = eqb-true edits.depth 0 t in
+          let none : later.current ≡ [] = rw t (none-ended (noted_all steps (begun edits)) (omega arith)) in
+          parts-alone editing ps later told (shut zero) (depth-noted steps edits ∙ zero) none
+      | inr f ↦
+          let e : (later.depth == 0) ≡ false = ap (λ (d : ℕ). d == 0) (depth-noted steps edits) ∙ f in
+          let is : later.current ≡ edits.current ++ steps = rw f refl in
+          let turn = FitInTurn-later editing.trail ps editing.loaded.text fit in
+          record {
+            trail = refl;
+            parts = rw e (sym (ap redo_of is ∙ map-append forth_of edits.current steps
+                ∙ ap (λ (qs : List Primitive). redo_of edits.current ++ qs) (redoes ps (text_of editing) turn)));
+          }
+    ]
+
+-- a transaction that is closed
+outer_parts : (steps : List Step) (edits : Edits) → edits.depth ≡ 0 → edits.current ≡ steps
+    → redo_of steps ≡ primitives_in (option_to_list (finished_at (closed steps edits).depth (redo_of steps))) ++ redo_of (closed steps edits).current
+outer_parts [] edits zero is =
+    let t : (edits.depth == 0) ≡ true = eq-eqb edits.depth 0 zero in
+    rw (t, is) refl
+outer_parts (first ∷ steps) edits zero is =
+    let t : (edits.depth == 0) ≡ true = eq-eqb edits.depth 0 zero in
+    rw t (alone (redo_of (first ∷ steps)))
+
+closed_parts : (edits : Edits) → 0 < edits.depth
+    → redo_of edits.current ≡ primitives_in (option_to_list (finished_at (ended edits).depth (redo_of edits.current))) ++ redo_of (ended edits).current
+closed_parts edits some =
+    elim (cases_Bool (edits.depth == 1)) [
+      | inl t ↦ rw t (outer_parts edits.current (record edits { depth = 0 }) refl refl)
+      | inr f ↦
+          let two : (edits.depth - 1 == 0) ≡ false = ne_eqb (edits.depth - 1) 0 (λ zero. absurd (eqb-false edits.depth 1 f (omega arith))) in
+          rw (f, two) refl
+    ]
+
+parts-closing : (editing : Editing) → 0 < editing.edits.depth → Parts editing [] (closing editing).finished (closing editing).after
+parts-closing editing some = record {
+  trail = sym (append-nil editing.trail);
+  parts = append-nil (redo_of editing.edits.current) ∙ closed_parts editing.edits some;
+}
+
+-- no transaction is open where an undo or a redo is not refused
+pub shut_unless : (editing : Editing) (groups : List (List Step)) (ps : List Primitive) → group_refusal editing groups ps ≡ None → editing.edits.depth ≡ 0
+shut_unless editing groups ps none =
+    elim (cases_Bool (editing.edits.depth == 0)) [
+      | inl t ↦ eqb-true editing.edits.depth 0 t
+      | inr f ↦ let open_none = rw f at none in absurd (cc)
+    ]
+
+pub open_unless : (depth : ℕ) → not_open depth ≡ None → 0 < depth
+open_unless depth none =
+    elim (cases_Bool (depth == 0)) [
+      | inl t ↦ let shut_none = rw t at none in absurd (cc)
+      | inr f ↦ omega (arith, eqb-false depth 0 f)
+    ]
+
+-- what makes a primitive is not refused
+pub not_refused : (judgement : Option Refusal) (editing : Editing) (made : EditReaction) (n : ℕ) → n < length (judged judgement editing made).made → judgement ≡ None
+not_refused None editing made n within = refl
+not_refused (Some cause) editing made n within = absurd (omega arith)
+
+-- the parts of what comes of a request
+abbrev pub PartsOf : State → Reaction → Type 0
+PartsOf state reaction = Parts state.editing reaction.made reaction.finished reaction.after.editing
+
+parts-still : (state : State) (reaction : Reaction) → IsStill state reaction → PartsOf state reaction
+parts-still state reaction still =
+    rw (still.made, still.finished, still.editing) (parts-none state.editing)
+
+-- the primitives are made in a text that they fit
+abbrev pub FitsAfter : State → Reaction → Type 0
+FitsAfter state reaction = FitInTurn reaction.after.editing.trail state.editing.loaded.text
+
+pub parts-react : (state : State) (command : Command) → (state.editing.edits.depth ≡ 0 → state.editing.edits.current ≡ [])
+    → FitsAfter state (react_command state command) → PartsOf state (react_command state command)
+parts-react state (Edit change) shut fit =
+    let editing = state.editing in
+    parts-judged (change_refusal editing change) editing (changed reply.Edited editing (steps_of change (text_of editing)))
+    (λ fits none. parts-changed reply.Edited editing (steps_of change (text_of editing)) shut fits) fit
+parts-react state Begin shut fit = record { trail = sym (append-nil state.editing.trail); parts = append-nil (redo_of state.editing.edits.current) }
+parts-react state End shut fit =
+    parts-judged (not_open state.editing.edits.depth) state.editing (closing state.editing)
+    (λ fits none. parts-closing state.editing (open_unless state.editing.edits.depth none)) fit
+parts-react state Undo shut fit =
+    let editing = state.editing in
+    parts-judged (group_refusal editing editing.edits.undo (undo_steps editing)) editing (undone reply.Edited editing (undo_steps editing))
+    (λ fits none.
+    let zero = shut_unless editing editing.edits.undo (undo_steps editing) none in
+    parts-alone editing (undo_steps editing) (gone_back (length (undo_steps editing)) editing.edits) reply.Edited (shut zero) zero (shut zero)) fit
+parts-react state Redo shut fit =
+    let editing = state.editing in
+    parts-judged (group_refusal editing editing.edits.redo (redo_steps editing)) editing (redone reply.Edited editing (redo_steps editing))
+    (λ fits none.
+    let zero = shut_unless editing editing.edits.redo (redo_steps editing) none in
+    parts-alone editing (redo_steps editing) (gone_forth (length (redo_steps editing)) editing.edits) reply.Edited (shut zero) zero (shut zero)) fit
+parts-react state (MakeRange span expand empty) shut fit = parts-none state.editing
+parts-react state (SetRange id span) shut fit = parts-still state _ (still-set state id span (get state.ranges id))
+parts-react state (DropRange id) shut fit = parts-still state _ (still-drop state id (get state.ranges id))
+parts-react state (ShowRange id) shut fit = parts-still state _ (still-show state id (get state.ranges id))
+parts-react state Lock shut fit = parts-none state.editing
+parts-react state (Unlock revision) shut fit = parts-still state _ (still-unlock state revision (has_lock state.locks Editor revision))
+parts-react state (Land revision span expand empty) shut fit =
+    parts-still state _ (still-land state revision span expand empty (can_land_from state revision))
+
+-- a command that makes no primitive is not cut
+pub uncut : (state : State) (reaction : Reaction) (n : ℕ) → reaction.made ≡ [] → n < length reaction.made → ⊥
+uncut state reaction n none within = let few : n < 0 = rw none at within in absurd (omega arith)
+
+no_made : (judgement : Option Refusal) (editing : Editing) (n : ℕ) → n < length (judged judgement editing (closing editing)).made → ⊥
+no_made None editing n within = absurd (omega arith)
+no_made (Some cause) editing n within = absurd (omega arith)
+
+pub no_end : (editing : Editing) (n : ℕ) → n < length (judged (not_open editing.edits.depth) editing (closing editing)).made → ⊥
+no_end editing n within = no_made (not_open editing.edits.depth) editing n within
+
+pub parts-cut : (state : State) (command : Command) (n : ℕ) → (state.editing.edits.depth ≡ 0 → state.editing.edits.current ≡ [])
+    → n < length (react_command state command).made
+    → FitsAfter state (edited state (cut_reaction state.editing command n)) → PartsOf state (edited state (cut_reaction state.editing command n))
+parts-cut state (Edit change) n shut within fit =
+    parts-changed reply.Cut state.editing (take n (steps_of change (text_of state.editing))) shut fit
+parts-cut state Begin n shut within fit = absurd (omega arith)
+parts-cut state End n shut within fit = absurd (no_end state.editing n within)
+parts-cut state Undo n shut within fit =
+    let editing = state.editing in
+    let ps = take n (undo_steps editing) in
+    let none = not_refused (group_refusal editing editing.edits.undo (undo_steps editing)) editing (undone reply.Edited editing (undo_steps editing)) n within in
+    let zero = shut_unless editing editing.edits.undo (undo_steps editing) none in
+    parts-alone editing ps (gone_back (length ps) editing.edits) reply.Cut (shut zero) zero (shut zero)
+parts-cut state Redo n shut within fit =
+    let editing = state.editing in
+    let ps = take n (redo_steps editing) in
+    let none = not_refused (group_refusal editing editing.edits.redo (redo_steps editing)) editing (redone reply.Edited editing (redo_steps editing)) n within in
+    let zero = shut_unless editing editing.edits.redo (redo_steps editing) none in
+    parts-alone editing ps (gone_forth (length ps) editing.edits) reply.Cut (shut zero) zero (shut zero)
+parts-cut state (MakeRange span expand empty) n shut within fit = absurd (omega arith)
+parts-cut state (SetRange id span) n shut within fit = absurd (uncut state (react_command state (SetRange id span)) n (still-set state id span (get state.ranges id)).made within)
+parts-cut state (DropRange id) n shut within fit = absurd (uncut state (react_command state (DropRange id)) n (still-drop state id (get state.ranges id)).made within)
+parts-cut state (ShowRange id) n shut within fit = absurd (uncut state (react_command state (ShowRange id)) n (still-show state id (get state.ranges id)).made within)
+parts-cut state Lock n shut within fit = absurd (omega arith)
+parts-cut state (Unlock revision) n shut within fit =
+    absurd (uncut state (react_command state (Unlock revision)) n (still-unlock state revision (has_lock state.locks Editor revision)).made within)
+parts-cut state (Land revision span expand empty) n shut within fit =
+    absurd (uncut state (react_command state (Land revision span expand empty)) n (still-land state revision span expand empty (can_land_from state revision)).made within)
+
+pub parts-by : (state : State) (seat : ℕ) (request : Request) (o : Option ℕ) → (state.editing.edits.depth ≡ 0 → state.editing.edits.current ≡ [])
+    → CutsBetween (react state seat request).made o → FitsAfter state (react_by state seat request o) → PartsOf state (react_by state seat request o)
+parts-by state seat (Cmd command) None shut cut fit = parts-react state command shut fit
+parts-by state seat (Cmd command) (Some n) shut cut fit = parts-cut state command n shut cut.1 fit

@@ -1,0 +1,15 @@
+use Rattle.std.proofs.Common.{[], refl, subst}
+use Rattle.kte_text.specs.Primitives.{FitInTurn}
+use Rattle.kte_core.specs.Replay.{beginning, replay}
+use Rattle.kte_core.proofs.ReplayLemmas.{loaded-replay}
+use Rattle.kte_core.proofs.SteadyLemmas.{steady-beginning, steady-replay, parted-replay}
+use Rattle.kte_core.proofs.laws.transactions_are_the_trail.Goals as goal
+
+pub returns : goal.returns
+returns c = record {
+  trail = λ loaded limit events text whole legal.
+      parted-replay (beginning loaded limit) events [] whole (steady-beginning loaded limit text) legal refl;
+  fit = λ loaded limit events text whole legal.
+      subst (λ l. FitInTurn (replay (beginning loaded limit) events).editing.trail l.text) (loaded-replay (beginning loaded limit) events)
+      (steady-replay (beginning loaded limit) events whole (steady-beginning loaded limit text) legal).turn;
+}
