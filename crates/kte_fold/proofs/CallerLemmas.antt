@@ -4,7 +4,6 @@ use Rattle.std.specs.Option.{option_map}
 use Rattle.std.specs.FinMap.{get}
 use Rattle.kte_place.specs.Ends.{Ends}
 use Rattle.kte_place.specs.Place.{is_at_or_before}
-use Rattle.kte_fold.specs.declared.refused.FoldRefused.{FoldRefused}
 use Rattle.kte_fold.specs.declared.refused.FoldRefused.TheVariants.{OutOfText, EmptySpan, Crosses}
 use Rattle.kte_fold.specs.Folds.{Spans, is_fold, has_span, least_crossed, refusal}
 use Rattle.kte_fold.specs.Tree.{KeepsTree, LiesIn, Precedes, span_at}

@@ -1,7 +1,6 @@
 -- Folds that are carried over an entry.
-use Rattle.std.proofs.Common.{◌≡◌, ℕ, ◌+◌, ◌-◌, ◌<◌, ◌≤◌, Bool, true, false, ◌&&◌, List, length, slice_index, Option, None, Some, IsTrue, IfSome, refl, sym, subst, ap, ◌∙◌, if◌then◌else◌, arith}
+use Rattle.std.proofs.Common.{◌≡◌, ℕ, ◌+◌, ◌-◌, ◌<◌, ◌≤◌, Bool, true, false, ◌&&◌, List, length, slice_index, Option, None, Some, IsTrue, IfSome, refl, sym, subst, ap, if◌then◌else◌, arith}
 use Rattle.std.proofs.lemmas.Bool.Decides.{nat_tests}
-use Rattle.std.specs.FinMap.{get}
 use Rattle.kte_text.specs.Texts.{line_at}
 use Rattle.kte_place.specs.declared.place.Place.{Place}
 use Rattle.kte_place.specs.declared.place.OnInsert.TheVariants.{Stay, Move}
@@ -11,11 +10,11 @@ use Rattle.kte_place.specs.declared.span.Empty.TheVariants.{Void}
 use Rattle.kte_place.specs.Ends.{Ends}
 use Rattle.kte_place.specs.Place.{is_at_or_before}
 use Rattle.kte_place.specs.Entry.{carry}
-use Rattle.kte_place.specs.Span.{ends, settle, carry_span}
+use Rattle.kte_place.specs.Span.{ends, carry_span}
 use Rattle.kte_place.proofs.CarryLemmas.{keeps_order, stay_before_move}
-use Rattle.kte_fold.specs.Folds.{Spans, is_in_text, has_span}
-use Rattle.kte_fold.specs.Tree.{KeepsTree, LiesIn, Precedes, span_at}
-use Rattle.kte_fold.specs.Laws.{CarryingKeepsTree, IsEntryOf, FoldsAreIn, AreCarried, grows_at_no_end}
+use Rattle.kte_fold.specs.Folds.{is_in_text, has_span}
+use Rattle.kte_fold.specs.Tree.{LiesIn, Precedes, span_at}
+use Rattle.kte_fold.specs.Laws.{CarryingKeepsTree, IsEntryOf, grows_at_no_end}
 use Rattle.kte_fold.proofs.ListLemmas.{fold_at}
 use Rattle.kte_fold.proofs.PlaceLemmas.{le_trans, later_when, lt_not_le}
 

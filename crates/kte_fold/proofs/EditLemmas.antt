@@ -1,11 +1,11 @@
 -- The lists of the folds as a fold goes, and as one comes.
-use Rattle.std.proofs.Common.{◌≡◌, ◌≢◌, ℕ, ◌+◌, ◌-◌, ◌<◌, ◌≤◌, ◌⊎◌, ◌↔◌, true, false, List, length, slice_index, Option, None, Some, IsTrue, inl, inr, refl, sym, subst, ap, ◌∙◌, arith}
+use Rattle.std.proofs.Common.{◌≡◌, ◌≢◌, ℕ, ◌+◌, ◌-◌, ◌<◌, ◌≤◌, ◌⊎◌, ◌↔◌, true, false, List, length, slice_index, Some, IsTrue, inl, inr, refl, sym, ap, ◌∙◌, arith}
 use Rattle.std.specs.List.{insert, remove}
 use Rattle.std.proofs.lemmas.List.Edits.{length-insert, get_or-insert_below, get_or-insert_at, get_or-insert_above, length-remove, get_or-remove_below, get_or-remove_above}
 use Rattle.std.specs.FinMap.{get}
 use Rattle.kte_place.specs.Ends.{Ends}
 use Rattle.kte_fold.specs.Folds.{Spans, is_fold}
-use Rattle.kte_fold.specs.Tree.{KeepsTree, LiesIn, Precedes, span_at}
+use Rattle.kte_fold.specs.Tree.{KeepsTree, span_at}
 use Rattle.kte_fold.specs.Inside.{IsOutline, Left, Descended, LieInside, Follow}
 use Rattle.kte_fold.proofs.ListLemmas.{place_of, fold_at}
 use Rattle.kte_fold.proofs.TreeLemmas.{Sound, Kept, gone_sound, gone_kept, come_sound, come_kept}

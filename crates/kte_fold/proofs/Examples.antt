@@ -1,9 +1,8 @@
 -- Worked examples of the definitions, each proved by computation.
-use Rattle.std.proofs.Common.{◌≡◌, ℕ, true, false, List, [], ◌∷◌, Option, None, Some, refl}
+use Rattle.std.proofs.Common.{◌≡◌, ℕ, true, false, List, [], ◌∷◌, None, Some, refl}
 use Rattle.std.specs.Prelude.{codes}
 use Rattle.std.specs.FinMap.{get}
 use Rattle.kte_place.specs.Examples.{span}
-use Rattle.kte_fold.specs.declared.refused.FoldRefused.{FoldRefused}
 use Rattle.kte_fold.specs.declared.refused.FoldRefused.TheVariants.{OutOfText, EmptySpan, Crosses}
 use Rattle.kte_fold.specs.Folds.{Spans, hides, is_hidden, visible_before, visible_of, crosses, is_crossed, least_crossed, refusal}
 use Rattle.kte_fold.specs.Examples.{three_spans}

@@ -1,5 +1,5 @@
 -- The order of places and of spans.
-use Rattle.std.proofs.Common.{◌≡◌, ℕ, ◌<◌, ◌≤◌, ◌⊎◌, Option, None, Some, Bool, true, false, IsTrue, ◌&&◌, ◌||◌, inl, inr, refl, sym, arith}
+use Rattle.std.proofs.Common.{◌≡◌, ◌⊎◌, Option, None, Some, Bool, true, false, IsTrue, ◌&&◌, ◌||◌, inl, inr, refl, sym, arith}
 use Rattle.std.proofs.lemmas.Bool.Decides.{nat_tests}
 use Rattle.kte_place.specs.declared.place.Place.{Place}
 use Rattle.kte_place.specs.Ends.{Ends}

@@ -1,13 +1,12 @@
 -- The walks that find where a span goes.
-use Rattle.std.proofs.Common.{◌≡◌, ℕ, ◌+◌, ◌-◌, ◌<◌, ◌≤◌, ◌⊎◌, Bool, true, false, List, length, slice_index, set, get_or, Option, None, Some, IsTrue, inl, inr, refl, sym, subst, arith}
-use Rattle.std.proofs.lemmas.Bool.Decides.{nat_tests}
+use Rattle.std.proofs.Common.{◌≡◌, ℕ, ◌+◌, ◌<◌, ◌≤◌, ◌⊎◌, false, List, length, slice_index, set, Option, None, Some, IsTrue, inl, inr, refl, sym, subst, arith}
 use Rattle.std.proofs.Common.{length-set, get_or-set_other, get_or-set_same}
 use Rattle.kte_place.specs.Ends.{Ends}
 use Rattle.kte_place.specs.Place.{is_at_or_before, is_before}
-use Rattle.kte_fold.specs.Folds.{Spans, is_crossed, crosses}
-use Rattle.kte_fold.specs.Tree.{IsUnder, KeepsTree, LiesIn, Precedes, span_at}
-use Rattle.kte_fold.specs.Inside.{IsOutline, KeepsTreeFrom, Descended, IsAbove, IsPast, NoneCross, AreApart, LieInside, Follow}
-use Rattle.kte_fold.proofs.PlaceLemmas.{lies_trans, lies_precedes, precedes_lies, by_later_end, by_later_start, compare, le_trans, le_trans_lt, lt_trans_le, lt_not_le}
+use Rattle.kte_fold.specs.Folds.{Spans, is_crossed}
+use Rattle.kte_fold.specs.Tree.{KeepsTree, LiesIn, Precedes, span_at}
+use Rattle.kte_fold.specs.Inside.{IsOutline, KeepsTreeFrom, Descended, IsAbove, NoneCross, AreApart, LieInside, Follow}
+use Rattle.kte_fold.proofs.PlaceLemmas.{lies_trans, lies_precedes, precedes_lies, by_later_end, by_later_start, le_trans, lt_trans_le}
 
 either : (k at : ℕ) → (k < at) ⊎ (at ≤ k)
 either k at = grind arith

@@ -1,5 +1,5 @@
 -- The tree as a fold goes, and as one comes.
-use Rattle.std.proofs.Common.{◌≡◌, ℕ, ◌+◌, ◌-◌, ◌<◌, ◌≤◌, ◌≢◌, ◌⊎◌, List, length, slice_index, Option, None, Some, inl, inr, refl, sym, subst, arith}
+use Rattle.std.proofs.Common.{◌≡◌, ℕ, ◌+◌, ◌-◌, ◌<◌, ◌≤◌, ◌⊎◌, List, length, slice_index, Option, Some, inl, inr, sym, subst, arith}
 use Rattle.kte_place.specs.Ends.{Ends}
 use Rattle.kte_fold.specs.Folds.{Spans}
 use Rattle.kte_fold.specs.Tree.{LiesIn, Precedes, span_at}

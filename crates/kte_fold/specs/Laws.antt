@@ -1,12 +1,11 @@
 -- What a change of the text does to the tree of the folds.
-use Rattle.std.specs.Prelude.{◌≡◌, ℕ, ◌-◌, List, length, false, Option, IsTrue, OnSome, IfSome}
+use Rattle.std.specs.Prelude.{◌≡◌, ℕ, ◌-◌, List, length, false, IsTrue, IfSome}
 use Rattle.std.specs.FinMap.{get}
 use Rattle.kte_text.specs.Texts.{line_at}
 use Rattle.kte_place.specs.declared.entry.Entry.{Entry}
 use Rattle.kte_place.specs.declared.entry.EntryKind.TheVariants.{Unwrap}
 use Rattle.kte_place.specs.declared.span.Expand.{Expand}
 use Rattle.kte_place.specs.declared.span.Empty.TheVariants.{Void}
-use Rattle.kte_place.specs.Ends.{Ends}
 use Rattle.kte_place.specs.Laws.{IsWithin}
 use Rattle.kte_place.specs.Span.{carry_span}
 use Rattle.kte_fold.specs.Folds.{Spans, has_span, is_fold}

@@ -1,7 +1,7 @@
 -- The tree of the folds, each inside the one that holds it, as an outline: the numbers in the order
 -- in which an outline lists them, each before those inside it, and how many are inside each. This
 -- project's own rule.
-use Rattle.std.specs.Prelude.{◌≡◌, ℕ, ◌+◌, ◌<◌, ◌≤◌, ◌≢◌, List, length, slice_index, Option, None, Some, IsTrue}
+use Rattle.std.specs.Prelude.{ℕ, ◌+◌, ◌<◌, ◌≤◌, List, length, slice_index, Option, None, Some, IsTrue}
 use Rattle.std.specs.FinMap.{get}
 use Rattle.kte_place.specs.Ends.{Ends}
 use Rattle.kte_place.specs.Place.{is_at_or_before}

@@ -116,11 +116,12 @@ impl Folds {
         self.inside.insert(seat.at, next - seat.at).unwrap();
     }
 
-    /// Removes a fold; those inside it stay, inside the fold that held it, if any. Fails if there is
-    /// no such fold; nothing has changed then. Takes no memory.
+    /// Removes a fold; those inside it stay, inside the fold that held it, if any. Fails if there
+    /// is no such fold; nothing has changed then. Takes no memory.
     pub fn remove(&mut self, id: u64) -> Result<(), NoFold>
         ensures fold { OnOk result (IsTrue (is_fold self.old.numbers id)) }
-        ensures no_fold { IfErr result (λ fault. (fault.id ≡ id) × (is_fold self.old.numbers id ≡ false)) }
+        ensures no_fold { IfErr result
+            (λ fault. (fault.id ≡ id) × (is_fold self.old.numbers id ≡ false)) }
         ensures removed { OnOk result ((n : ℕ) → IsTrue (is_fold self.new.numbers n)
             ↔ ((n ≢ id) × IsTrue (is_fold self.old.numbers n))) }
         ensures tree { (spans : Spans) → KeepsTree spans self.old.numbers self.old.inside
@@ -144,7 +145,8 @@ impl Folds {
         position(self.numbers.as_slice(), id).is_some()
     }
 
-    /// Whether a line is hidden: a valid fold starts before it, and ends on it or later. Takes no memory.
+    /// Whether a line is hidden: a valid fold starts before it, and ends on it or later. Takes no
+    /// memory.
     pub fn hidden<S: Spanned>(&self, spans: &S, line: u32) -> bool
         requires { KeepsTree (S.spans spans.now) self.now.numbers self.now.inside }
         ensures { result ≡ is_hidden (S.spans spans.now) self.now.numbers line }
@@ -152,8 +154,8 @@ impl Folds {
         self.visible_of(spans, line).is_none()
     }
 
-    /// Returns the number of lines before a line that are not hidden, or `None` if the line itself is
-    /// hidden. Takes no memory.
+    /// Returns the number of lines before a line that are not hidden, or `None` if the line itself
+    /// is hidden. Takes no memory.
     pub fn visible_of<S: Spanned>(&self, spans: &S, line: u32) -> Option<u32>
         requires { KeepsTree (S.spans spans.now) self.now.numbers self.now.inside }
         ensures { result ≡ visible_of (S.spans spans.now) self.now.numbers line }

@@ -6,8 +6,8 @@
 //! which number, and what may be folded is defined in `specs/` by the set of the numbers and their
 //! spans alone, and each call is proved to give just that.
 //!
-//! A fold whose range is invalid hides nothing and crosses nothing, and it can be removed. No query,
-//! [`Folds::add`] or [`Folds::remove`] allocates.
+//! A fold whose range is invalid hides nothing and crosses nothing, and it can be removed. No
+//! query, [`Folds::add`] or [`Folds::remove`] allocates.
 //!
 //! - `folds`: the folds, and the calls
 //! - `refused`: why a span may not be folded

@@ -18,7 +18,8 @@ pub(crate) struct Seat {
 
 /// Returns the place of a number.
 pub(crate) fn position(numbers: &[u64], id: u64) -> Option<usize>
-    ensures found { IfSome result (λ at. (at < length numbers.now) × (slice_index numbers.now at ≡ id)) }
+    ensures found { IfSome result
+        (λ at. (at < length numbers.now) × (slice_index numbers.now at ≡ id)) }
     ensures absent { IfNone result (is_fold numbers.now id ≡ false) }
 {
     for (at, number) in numbers.iter().enumerate() {

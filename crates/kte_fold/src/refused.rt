@@ -9,8 +9,8 @@ pub enum FoldRefused {
     /// The span is empty.
     #[error("the span is empty")]
     EmptySpan,
-    /// Folds cross the span: one of the two starts strictly inside the other and ends strictly after
-    /// it. This is the least number of such a fold.
+    /// Folds cross the span: one of the two starts strictly inside the other and ends strictly
+    /// after it. This is the least number of such a fold.
     #[error("the span crosses fold {id}")]
     Crosses { id: u64 },
 }

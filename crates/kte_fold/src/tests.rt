@@ -1,13 +1,18 @@
-ghost use Rattle.std.specs.Prelude.{◌≡◌, None};
-ghost use Rattle.std.specs.FinMap as map;
+ghost use Rattle.std.specs.Prelude.{◌≡◌, None, IsTrue, IfSome};
 ghost use Rattle.kte_place.specs.Place.{at};
-ghost use Rattle.kte_place.specs.Span.{between};
+ghost use Rattle.kte_place.specs.declared.span.Empty.TheVariants.{Void};
+ghost use Rattle.kte_place.specs.Entry.{EntryFits, PlaceFits};
+ghost use Rattle.kte_place.specs.Span.{between, carry_span};
+ghost use Rattle.kte_fold.specs.Folds.{has_span, is_in_text};
+ghost use Rattle.kte_fold.specs.Laws.{IsEntryOf, grows_at_no_end};
 ghost use Rattle.kte_fold.specs.Examples.{three_spans};
 ghost use Rattle.kte_fold.specs.Tree.{KeepsTree};
 
+use crate::laws::carrying;
+use crate::walk::is_in_text;
 use crate::*;
-use kte_place::{Place, Span, Spanned};
-use kte_text::{LoadFault, Text, load};
+use kte_place::{Empty, Entry, EntryKind, Expand, MAX_COLUMN, MAX_LENGTH, Place, Span, Spanned};
+use kte_text::{Lines, LoadFault, Text, load};
 use std::alloc::{AllocError, Global};
 use std::test::Fail;
 
@@ -29,18 +34,6 @@ impl Spanned for Ranges {
             3 => self.three,
             _ => None,
         }
-    }
-}
-
-/// Ranges that are all invalid.
-#[derive(Drop)]
-struct Gone;
-
-impl Spanned for Gone {
-    ghost spans = { λ g. map.empty };
-
-    fn span(&self, _id: u64) -> Option<Span> {
-        None
     }
 }
 
@@ -101,6 +94,99 @@ fn unfold<S: Spanned>(folds: &mut Folds, spans: &S, id: u64) -> Option<NoFold>
 {
     let _ = spans;
     folds.remove(id).err()
+}
+
+/// The entry of a line that is joined to the one before it, which has this length.
+fn unwrap(line: u32, old: u64) -> Entry {
+    Entry {
+        kind: EntryKind::Unwrap,
+        line,
+        column: 0,
+        length: 0,
+        old,
+    }
+}
+
+/// The entry of so many units that are removed from a column on.
+fn removal(line: u32, column: u64, length: u64) -> Entry {
+    Entry {
+        kind: EntryKind::Remove,
+        line,
+        column,
+        length,
+        old: 0,
+    }
+}
+
+/// Whether an entry is one of a text, and places can be carried over it.
+fn is_entry_of(text: &Text, entry: Entry) -> bool
+    ensures entry { IsTrue result → IsEntryOf text.now entry }
+    ensures fits { IsTrue result → EntryFits entry }
+{
+    if entry.line >= text.lines() || entry.length > MAX_LENGTH || entry.old > MAX_LENGTH {
+        return false;
+    }
+    if entry.kind == EntryKind::Unwrap {
+        return entry.line > 0 && text.line(entry.line - 1).len() as u64 == entry.old;
+    }
+    true
+}
+
+/// Whether a place is in a text and can be carried.
+fn has_place(text: &Text, place: Place) -> bool
+    ensures inside { IsTrue result → IsTrue (is_in_text text.now place) }
+    ensures fits { IsTrue result → PlaceFits place }
+{
+    place.line < u32::MAX && place.column <= MAX_COLUMN && is_in_text(text, place)
+}
+
+/// Whether a range is in a text and can be carried, if it is valid.
+fn is_in(text: &Text, range: Option<Span>) -> bool
+    ensures inside { IsTrue result → IfSome range (λ s. IsTrue (has_span text.now s)) }
+    ensures fits { IsTrue result → IfSome range (λ s. PlaceFits s.start × PlaceFits s.end) }
+{
+    match range {
+        None => true,
+        Some(span) => has_place(text, span.start) && has_place(text, span.end),
+    }
+}
+
+/// Returns a range after an entry.
+fn carried(entry: Entry, range: Option<Span>) -> Option<Span>
+    requires entry { EntryFits entry }
+    requires range { IfSome range (λ s. PlaceFits s.start × PlaceFits s.end) }
+    ensures { result ≡ carry_span entry range grows_at_no_end Void }
+{
+    let expand = Expand {
+        left: false,
+        right: false,
+    };
+    match range {
+        None => None,
+        Some(span) => entry.carry_span(span, expand, Empty::Void),
+    }
+}
+
+/// Carries the ranges over an entry. Returns whether the entry is one of the text and the ranges
+/// are in it; else they are unchanged.
+fn carry(ranges: &mut Ranges, folds: &Folds, text: &Text, entry: Entry) -> bool
+    requires { KeepsTree (three_spans ranges.old.one ranges.old.two ranges.old.three)
+        folds.now.numbers folds.now.inside }
+    ensures { KeepsTree (three_spans ranges.new.one ranges.new.two ranges.new.three)
+        folds.now.numbers folds.now.inside }
+{
+    let _ = folds;
+    carrying();
+    if !is_entry_of(text, entry) {
+        return false;
+    }
+    if !is_in(text, ranges.one) || !is_in(text, ranges.two) || !is_in(text, ranges.three) {
+        return false;
+    }
+    ranges.one = carried(entry, ranges.one);
+    ranges.two = carried(entry, ranges.two);
+    ranges.three = carried(entry, ranges.three);
+    true
 }
 
 #[test]
@@ -187,10 +273,43 @@ fn an_outer_fold_goes_and_the_inner_ones_stay(rt: HostRuntime) -> Result<(), Fai
 }
 
 #[test]
-fn an_invalid_fold_hides_nothing_and_can_be_removed(rt: HostRuntime) -> Result<(), Fail> {
-    let mut folds = no_folds(rt.alloc(), &Gone);
-    assert!(rt; !folds.is_fold(1));
-    assert!(rt; !folds.hidden(&Gone, 1));
-    assert_eq!(rt; unfold(&mut folds, &Gone, 1), Some(NoFold { id: 1 }));
+fn a_fold_of_removed_text_hides_nothing_and_can_be_removed(rt: HostRuntime) -> Result<(), Fail> {
+    let text = four_lines(rt.alloc())?;
+    let mut ranges = Ranges {
+        one: Some(span((0, 1), (2, 0))),
+        two: Some(span((1, 0), (1, 1))),
+        three: Some(span((1, 0), (3, 0))),
+    };
+    let mut folds = no_folds(rt.alloc(), &ranges);
+    assert_eq!(rt; fold(&mut folds, &text, &ranges, 1)?, None);
+    assert_eq!(rt; fold(&mut folds, &text, &ranges, 2)?, None);
+    let refused = fold(&mut folds, &text, &ranges, 3)?;
+    assert_eq!(rt; refused, Some(FoldRefused::Crosses { id: 1 }));
+    // Line 1 is joined to line 0 and its unit removed, so that the inner fold is empty.
+    assert!(rt; carry(&mut ranges, &folds, &text, unwrap(1, 1)));
+    let text = load(rt.alloc(), b"ab\nc\nd")?.text;
+    assert_eq!(rt; ranges.two, Some(span((0, 1), (0, 2))));
+    assert!(rt; carry(&mut ranges, &folds, &text, removal(0, 1, 1)));
+    let text = load(rt.alloc(), b"a\nc\nd")?.text;
+    assert_eq!(rt; ranges.two, None);
+    assert_eq!(rt; ranges.one, Some(span((0, 1), (1, 0))));
+    assert_eq!(rt; folds.visible_of(&ranges, 1), None);
+    assert_eq!(rt; folds.line_of(&ranges, 3, 1), Some(2));
+    // The next line is joined too, so that the outer fold is empty.
+    assert!(rt; carry(&mut ranges, &folds, &text, unwrap(1, 1)));
+    let text = load(rt.alloc(), b"ac\nd")?.text;
+    assert_eq!(rt; ranges.one, None);
+    for line in 0..2u32 {
+        assert!(rt; !folds.hidden(&ranges, line));
+        assert_eq!(rt; folds.visible_of(&ranges, line), Some(line));
+        assert_eq!(rt; folds.line_of(&ranges, 2, line), Some(line));
+    }
+    assert_eq!(rt; fold(&mut folds, &text, &ranges, 3)?, None);
+    for id in 1..3u64 {
+        assert!(rt; folds.is_fold(id));
+        assert_eq!(rt; unfold(&mut folds, &ranges, id), None);
+        assert_eq!(rt; unfold(&mut folds, &ranges, id), Some(NoFold { id }));
+    }
+    assert!(rt; folds.hidden(&ranges, 1));
     Ok(())
 }

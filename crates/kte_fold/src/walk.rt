@@ -53,8 +53,8 @@ fn lesser(id: u64, other: Option<u64>) -> u64
     }
 }
 
-/// Whether neither a fold nor any fold inside it can cross a span: it lies in the span or has no part
-/// of it.
+/// Whether neither a fold nor any fold inside it can cross a span: it lies in the span or has no
+/// part of it.
 fn is_clear(fold: Span, span: Span) -> bool
     ensures { result ≡ is_clear (Some fold) span }
 {
@@ -71,13 +71,14 @@ pub(crate) fn precedes(first: Span, second: Span) -> bool
 
 /// Whether a span lies in another, which may be equal.
 pub(crate) fn lies_in(inner: Span, outer: Span) -> bool
-    ensures { result ≡ (is_at_or_before outer.start inner.start && is_at_or_before inner.end outer.end) }
+    ensures { result ≡ (is_at_or_before outer.start inner.start
+        && is_at_or_before inner.end outer.end) }
 {
     outer.start <= inner.start && inner.end <= outer.end
 }
 
-/// Whether two spans cross: one starts strictly inside the other, and the other ends strictly inside
-/// the first.
+/// Whether two spans cross: one starts strictly inside the other, and the other ends strictly
+/// inside the first.
 fn crosses(a: Span, b: Span) -> bool
     ensures { result ≡ crosses a b }
 {
@@ -119,8 +120,8 @@ pub(crate) fn visible_of<S: Spanned>(
     Some(line - hidden)
 }
 
-/// Returns the line with this number of lines before it that are not hidden, itself not hidden, in a
-/// text without end.
+/// Returns the line with this number of lines before it that are not hidden, itself not hidden, in
+/// a text without end.
 pub(crate) fn nth_visible<S: Spanned>(
     numbers: &[u64],
     inside: &[usize],

@@ -1,6 +1,6 @@
-use Rattle.std.proofs.Common.{◌≡◌, ℕ, Option, None, Some, ◌⊎◌, inl, inr, IsTrue, sym, subst, ap, arith}
+use Rattle.std.proofs.Common.{◌≡◌, Option, None, Some, ◌⊎◌, inl, inr, IsTrue, sym, subst, arith}
 use Rattle.kte_place.specs.Ends.{Ends}
-use Rattle.kte_place.specs.Place.{is_at_or_before, is_before}
+use Rattle.kte_place.specs.Place.{is_before}
 use Rattle.kte_fold.specs.Tree.{span_at, LiesIn, Precedes}
 use Rattle.kte_fold.proofs.PlaceLemmas.{later_when, lt_not_le}
 use Rattle.kte_fold.proofs.SeatLemmas.{inside_more, follow_all}

@@ -1,10 +1,10 @@
-use Rattle.std.proofs.Common.{◌≡◌, ℕ, ◌+◌, ◌<◌, length, slice_index, set, Option, None, Some, IsTrue, sym, subst, arith, get_or-set_same}
+use Rattle.std.proofs.Common.{◌≡◌, ℕ, ◌+◌, ◌<◌, length, slice_index, set, Option, None, Some, sym, subst, arith, get_or-set_same}
 use Rattle.kte_place.specs.Ends.{Ends}
 use Rattle.kte_fold.specs.Tree.{span_at, Precedes, LiesIn}
 use Rattle.kte_fold.specs.Inside.{Descended}
 use Rattle.kte_fold.proofs.PlaceLemmas.{lies_when, out_when, later_when}
 use Rattle.kte_fold.proofs.LeastLemmas.{none_cross}
-use Rattle.kte_fold.proofs.SeatLemmas.{descended_none, descended_past, descended_into, apart_at}
+use Rattle.kte_fold.proofs.SeatLemmas.{descended_past, descended_into, apart_at}
 use Rattle.kte_fold.proofs.outline.find_seat.Goals as goal
 use Rattle.kte_fold.proofs.outline.find_seat.Goals.{in_default-via-in-Some+else-not-precedes, in_default-via-in_default}
 

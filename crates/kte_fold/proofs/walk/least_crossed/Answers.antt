@@ -1,4 +1,4 @@
-use Rattle.std.proofs.Common.{◌≡◌, ℕ, ◌+◌, ◌≤◌, ◌⊎◌, Option, None, Some, true, false, length, slice_index, sym, subst, ap, refl, ◌∙◌, arith}
+use Rattle.std.proofs.Common.{◌≡◌, ℕ, ◌+◌, Option, None, Some, true, false, length, slice_index, sym, subst, refl, arith}
 use Rattle.kte_place.specs.Ends.{Ends}
 use Rattle.kte_fold.specs.Folds.{is_crossed, least_crossed, lesser}
 use Rattle.kte_fold.specs.Tree.{span_at}

@@ -1,8 +1,8 @@
-use Rattle.std.proofs.Common.{◌≡◌, ℕ, ◌+◌, ◌-◌, ◌^◌, ◌≤◌, ◌<◌, List, length, slice_index, Option, None, Some, IsTrue, sym, subst, ap, arith}
+use Rattle.std.proofs.Common.{◌≡◌, ℕ, ◌+◌, ◌-◌, ◌≤◌, ◌<◌, length, None, Some, ap, arith}
 use Rattle.kte_place.specs.Ends.{Ends}
 use Rattle.kte_fold.specs.Tree.{span_at}
-use Rattle.kte_fold.specs.Inside.{Counted, StartsFrom}
-use Rattle.kte_fold.proofs.CountLemmas.{counted_none, counted_skip, counted_fold, later_start, line_shown, line_counted, visible_is, in_order}
+use Rattle.kte_fold.specs.Inside.{StartsFrom}
+use Rattle.kte_fold.proofs.CountLemmas.{counted_skip, counted_fold, later_start, line_shown, line_counted, in_order}
 use Rattle.kte_fold.proofs.walk.nth_visible.Goals as goal
 use Rattle.kte_fold.proofs.walk.nth_visible.Goals.{in-Some+else-line-from, in_default, Then-line-from, After-loop-at}
 use Rattle.kte_fold.proofs.walk.nth_visible.Given.{Over}

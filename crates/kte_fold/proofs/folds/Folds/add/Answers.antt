@@ -1,7 +1,7 @@
-use Rattle.std.proofs.Common.{◌≡◌, ℕ, ◌<◌, ◌≤◌, ◌-◌, ◌++◌, false, List, length, slice_index, take, drop, Some, None, sym, subst, ap, ◌∙◌, arith}
+use Rattle.std.proofs.Common.{◌≡◌, ◌-◌, ◌++◌, false, length, take, drop, Some, sym, ◌∙◌, arith}
 use Rattle.std.specs.FinMap.{get}
 use Rattle.std.specs.List.{insert}
-use Rattle.kte_fold.specs.Folds.{is_fold, least_crossed}
+use Rattle.kte_fold.specs.Folds.{is_fold}
 use Rattle.kte_fold.specs.Tree.{KeepsTree}
 use Rattle.kte_fold.specs.Inside.{Descended, LieInside, Follow}
 use Rattle.std.proofs.lemmas.List.{take_at}

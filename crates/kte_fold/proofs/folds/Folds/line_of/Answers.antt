@@ -1,4 +1,4 @@
-use Rattle.std.proofs.Common.{◌≡◌, ℕ, ◌+◌, ◌-◌, ap, arith}
+use Rattle.std.proofs.Common.{◌≡◌, ◌+◌, ◌-◌, ap, arith}
 use Rattle.kte_fold.specs.Folds.{visible_before}
 use Rattle.kte_fold.proofs.CountLemmas.{fewer_before}
 use Rattle.kte_fold.proofs.folds.Folds.line_of.Goals as goal

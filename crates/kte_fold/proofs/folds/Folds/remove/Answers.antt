@@ -1,4 +1,4 @@
-use Rattle.std.proofs.Common.{◌≡◌, ℕ, ◌<◌, ◌≤◌, ◌++◌, List, length, slice_index, take, drop, sym, ◌∙◌, arith}
+use Rattle.std.proofs.Common.{◌≡◌, ℕ, ◌<◌, ◌≤◌, ◌++◌, length, slice_index, take, drop, arith}
 use Rattle.kte_fold.specs.Inside.{Left}
 use Rattle.std.proofs.lemmas.List.{take_at}
 use Rattle.kte_fold.proofs.EditLemmas.{outline_gone, tree_gone, folds_gone}
