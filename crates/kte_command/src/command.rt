@@ -1,6 +1,7 @@
 ghost use Rattle.std.specs.Prelude.{◌≡◌, IfOk};
 
 use kte_edit::Change;
+use kte_find::Rule;
 use kte_place::{Empty, Expand, Span};
 use std::alloc::{AllocError, Global};
 
@@ -51,6 +52,14 @@ pub enum Command {
         expand: Expand,
         empty: Empty,
     },
+    /// Posts a job: to look in the text for what a rule finds.
+    Check {
+        rule: Rule,
+    },
+    /// Asks that all finished transactions be made durable.
+    Sync,
+    /// Asks that the present text be saved.
+    Save,
 }
 
 impl Command {
@@ -96,6 +105,11 @@ impl Command {
                 expand: *expand,
                 empty: *empty,
             }),
+            Command::Check { rule } => Ok(Command::Check {
+                rule: rule.copy(alloc)?,
+            }),
+            Command::Sync => Ok(Command::Sync),
+            Command::Save => Ok(Command::Save),
         }
     }
 }

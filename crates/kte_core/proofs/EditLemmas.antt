@@ -19,36 +19,35 @@ use Rattle.kte_undo.specs.declared.groups.UndoFault.{UndoFault}
 use Rattle.kte_command.specs.declared.command.Command.{Command}
 use Rattle.kte_command.specs.declared.command.Command.TheVariants as command
 use Rattle.kte_core.specs.Editing.{Editing, EditReaction, text_of, revision_of, judged, full, carried, noted_change, change_refusal, group_refusal, changed}
-use Rattle.kte_core.specs.React.{State, Reaction, react, react_by, react_cut, react_command, edited, cut_at, CutsBetween}
-use Rattle.kte_core.specs.Shown.{IsAfter, IsOf, IsRefused, Meets, Reacts}
+use Rattle.kte_core.specs.State.{State, Reaction, edited}
+use Rattle.kte_core.specs.React.{react_command, cut_at, CutsBetween}
+use Rattle.kte_core.specs.Shown.{IsAfter, IsOf, IsRefused, Meets, Carries, react_open}
 use Rattle.kte_core.specs.declared.event.Step.{Step}
 use Rattle.kte_core.specs.declared.reply.Reply.TheVariants as reply
 use Rattle.kte_core.specs.declared.reply.Refusal.{Refusal}
 use Rattle.kte_core.specs.declared.reply.Refusal.TheVariants as refusal
-use Rattle.kte_core.specs.declared.request.Request.{Request}
-use Rattle.kte_core.specs.declared.request.Request.TheVariants.{Cmd}
 
 -- a step of a reply that does not say that memory ran out
-pub Reacts-whole : (before : State) (seat : ℕ) (request : Request) (step : Step) (after : State) → cut_at step.reply ≡ None
-    → step.reply ≡ (react before seat request).reply → step.made ≡ (react before seat request).made
-    → after ≡ (react before seat request).after → Reacts before seat request step after
-Reacts-whole before seat request step after whole reply made leads = record {
-  reply = subst (λ (o : Option ℕ). step.reply ≡ (react_by before seat request o).reply) (sym whole) reply;
-  made = subst (λ (o : Option ℕ). step.made ≡ (react_by before seat request o).made) (sym whole) made;
-  leads = subst (λ (o : Option ℕ). after ≡ (react_by before seat request o).after) (sym whole) leads;
-  cut = subst (λ (o : Option ℕ). CutsBetween (react before seat request).made o) (sym whole) tt;
+pub Carries-whole : (before : State) (command : Command) (step : Step) (after : State) → cut_at step.reply ≡ None
+    → step.reply ≡ (react_command before command).reply → step.made ≡ (react_command before command).made
+    → after ≡ (react_command before command).after → Carries before command step after
+Carries-whole before command step after whole reply made leads = record {
+  reply = subst (λ (o : Option ℕ). step.reply ≡ (react_open before command o).reply) (sym whole) reply;
+  made = subst (λ (o : Option ℕ). step.made ≡ (react_open before command o).made) (sym whole) made;
+  leads = subst (λ (o : Option ℕ). after ≡ (react_open before command o).after) (sym whole) leads;
+  cut = subst (λ (o : Option ℕ). CutsBetween (react_command before command).made o) (sym whole) tt;
 }
 
 -- .. and of one that does
-pub Reacts-part : (before : State) (seat : ℕ) (request : Request) (step : Step) (after : State) (n : ℕ) → cut_at step.reply ≡ Some n
-    → step.reply ≡ (react_cut before seat request n).reply → step.made ≡ (react_cut before seat request n).made
-    → after ≡ (react_cut before seat request n).after → 0 < n → n < length (react before seat request).made
-    → Reacts before seat request step after
-Reacts-part before seat request step after n part reply made leads some within = record {
-  reply = subst (λ (o : Option ℕ). step.reply ≡ (react_by before seat request o).reply) (sym part) reply;
-  made = subst (λ (o : Option ℕ). step.made ≡ (react_by before seat request o).made) (sym part) made;
-  leads = subst (λ (o : Option ℕ). after ≡ (react_by before seat request o).after) (sym part) leads;
-  cut = subst (λ (o : Option ℕ). CutsBetween (react before seat request).made o) (sym part) (some, within);
+pub Carries-part : (before : State) (command : Command) (step : Step) (after : State) (n : ℕ) → cut_at step.reply ≡ Some n
+    → step.reply ≡ (react_open before command (Some n)).reply → step.made ≡ (react_open before command (Some n)).made
+    → after ≡ (react_open before command (Some n)).after → 0 < n → n < length (react_command before command).made
+    → Carries before command step after
+Carries-part before command step after n part reply made leads some within = record {
+  reply = subst (λ (o : Option ℕ). step.reply ≡ (react_open before command o).reply) (sym part) reply;
+  made = subst (λ (o : Option ℕ). step.made ≡ (react_open before command o).made) (sym part) made;
+  leads = subst (λ (o : Option ℕ). after ≡ (react_open before command o).after) (sym part) leads;
+  cut = subst (λ (o : Option ℕ). CutsBetween (react_command before command).made o) (sym part) (some, within);
 }
 
 -- a step that refuses a request that is to be refused
@@ -56,17 +55,19 @@ pub Meets-refused : (state : State) (command : Command) (document : Document) (e
     (judgement : Option Refusal) (reaction : EditReaction) → IsOf state document → edits ≡ state.editing.edits
     → IsRefused cause step → judgement ≡ Some cause
     → react_command state command ≡ edited state (judged judgement state.editing reaction)
-    → Meets state 0 (Cmd command) step document edits
+    → Meets state command step document edits state.jobs
 Meets-refused state command document edits cause step judgement reaction is_of same refuses because is =
     let it : react_command state command ≡ edited state (judged (Some cause) state.editing reaction) =
     is ∙ ap (λ (j : Option Refusal). edited state (judged j state.editing reaction)) because in
     record {
       after = state;
-      reacts = Reacts-whole state 0 (Cmd command) step state (ap cut_at refuses.reply)
+      carries = Carries-whole state command step state (ap cut_at refuses.reply)
           (refuses.reply ∙ sym (ap (λ (r : Reaction). r.reply) it)) (refuses.made ∙ sym (ap (λ (r : Reaction). r.made) it))
           (sym (ap (λ (r : Reaction). r.after) it));
       document = is_of;
       edits = same;
+      jobs_now = refl;
+      closed = refl;
     }
 
 -- the state after these primitives
@@ -86,8 +87,8 @@ IsOf-made state primitives edits document later is_of after = record {
 -- What a command calls for in a state where it is not refused: it makes these primitives, or the first
 -- ones, and leads to the groups that follow from them
 pub record Calls (state : State) (command : Command) (all : List Primitive) (groups : List Primitive → Edits) : Type 0 where
-  pub whole : react state 0 (Cmd command) ≡ edited state (carried reply.Edited state.editing all (groups all))
-  pub part : (n : ℕ) → react_cut state 0 (Cmd command) n
+  pub whole : react_command state command ≡ edited state (carried reply.Edited state.editing all (groups all))
+  pub part : (n : ℕ) → react_open state command (Some n)
       ≡ edited state (carried reply.Cut state.editing (take n all) (groups (take n all)))
 
 -- a step whose first primitives were made, as it tells
@@ -101,8 +102,8 @@ pub record Tells (all : List Primitive) (n : ℕ) (later : Document) (edits : Ed
 Meets-whole : (state : State) (command : Command) (all : List Primitive) (groups : List Primitive → Edits) (n : ℕ)
     (document later : Document) (edits : Edits) (step : Step) → IsOf state document → IsAfter all document later
     → edits ≡ groups all → n ≡ length all → step.made ≡ all → step.reply ≡ reply.Edited n later.revision edits.depth
-    → react state 0 (Cmd command) ≡ edited state (carried reply.Edited state.editing all (groups all))
-    → Meets state 0 (Cmd command) step later edits
+    → react_command state command ≡ edited state (carried reply.Edited state.editing all (groups all))
+    → Meets state command step later edits state.jobs
 Meets-whole state command all groups n document later edits step is_of after same long made told is =
     let shown = IsOf-made state all (groups all) document later is_of after in
     let revision = shown.came.revision in
@@ -112,18 +113,20 @@ Meets-whole state command all groups n document later edits step is_of after sam
     ∙ ap (λ (e : Edits). reply.Edited (length all) (length (state.editing.trail ++ all)) e.depth) same in
     record {
       after = made_in state all (groups all);
-      reacts = Reacts-whole state 0 (Cmd command) step (made_in state all (groups all)) (ap cut_at replied)
+      carries = Carries-whole state command step (made_in state all (groups all)) (ap cut_at replied)
           (replied ∙ sym (ap (λ (r : Reaction). r.reply) is)) (made ∙ sym (ap (λ (r : Reaction). r.made) is))
           (sym (ap (λ (r : Reaction). r.after) is));
       document = shown;
       edits = same;
+      jobs_now = refl;
+      closed = refl;
     }
 
 Meets-part : (state : State) (command : Command) (all : List Primitive) (groups : List Primitive → Edits) (n : ℕ)
     (document later : Document) (edits : Edits) (step : Step) → IsOf state document → IsAfter (take n all) document later
     → edits ≡ groups (take n all) → 0 < n → n < length all → step.made ≡ take n all
     → step.reply ≡ reply.Cut n later.revision edits.depth → Calls state command all groups
-    → Meets state 0 (Cmd command) step later edits
+    → Meets state command step later edits state.jobs
 Meets-part state command all groups n document later edits step is_of after same some within made told calls =
     let ps = take n all in
     let shown = IsOf-made state ps (groups ps) document later is_of after in
@@ -135,21 +138,23 @@ Meets-part state command all groups n document later edits step is_of after same
     ∙ ap (λ (k : ℕ). reply.Cut (length ps) k edits.depth) revision
     ∙ ap (λ (e : Edits). reply.Cut (length ps) (length (state.editing.trail ++ ps)) e.depth) same in
     let number : cut_at step.reply ≡ Some n = ap cut_at told in
-    let many : n < length (react state 0 (Cmd command)).made = rw calls.whole within in
+    let many : n < length (react_command state command).made = rw calls.whole within in
     record {
       after = made_in state ps (groups ps);
-      reacts = Reacts-part state 0 (Cmd command) step (made_in state ps (groups ps)) n number
+      carries = Carries-part state command step (made_in state ps (groups ps)) n number
           (replied ∙ sym (ap (λ (r : Reaction). r.reply) is)) (made ∙ sym (ap (λ (r : Reaction). r.made) is))
           (sym (ap (λ (r : Reaction). r.after) is)) some many;
       document = shown;
       edits = same;
+      jobs_now = refl;
+      closed = refl;
     }
 
 -- a step that tells what was made meets the reaction, or its cut form
 pub Meets-told : (state : State) (command : Command) (all : List Primitive) (groups : List Primitive → Edits) (n : ℕ)
     (document later : Document) (edits : Edits) (step : Step) → IsOf state document → IsAfter (take n all) document later
     → edits ≡ groups (take n all) → Tells all n later edits step → Calls state command all groups
-    → Meets state 0 (Cmd command) step later edits
+    → Meets state command step later edits state.jobs
 Meets-told state command all groups n document later edits step is_of after same tells calls =
     elim (cases_Bool (nat_lt n (length all))) [
       | inl t ↦ let within = ltb-true n (length all) t in
@@ -371,7 +376,7 @@ pub Meets-no_group : (command : Command) (groups : Edits → List (List UndoStep
     → ((depth : ℕ) → given ≡ UndoFault.StillOpen depth → IsOkAnd result (IsRefused (refusal.StillOpen depth)))
     → (given ≡ UndoFault.Nothing → IsOkAnd result (IsRefused refusal.Nothing))
     → (given ≡ UndoFault.NoMemory → IsErr result)
-    → IfOk result (λ step. (state : State) → IsOf state document → edits ≡ state.editing.edits → Meets state 0 (Cmd command) step document now)
+    → IfOk result (λ step. (state : State) → IsOf state document → edits ≡ state.editing.edits → Meets state command step document now state.jobs)
 Meets-no_group command groups steps reaction is result (UndoFault.StillOpen depth) document edits now kept opened none tells_open tells_none memory =
     if_ok result (IsRefused (refusal.StillOpen depth)) _
     (λ step refuses state is_of same.

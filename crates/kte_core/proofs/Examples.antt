@@ -1,28 +1,37 @@
 -- Worked examples of the definitions.
-use Rattle.std.proofs.Common.{◌≡◌, ℕ, false, List, [], ◌∷◌, Some, None, refl}
+use Rattle.std.proofs.Common.{◌≡◌, ℕ, true, false, List, [], ◌∷◌, Some, None, refl}
 use Rattle.std.specs.Prelude.{codes}
 use Rattle.std.specs.Ordering.{nat_cmp}
-use Rattle.std.specs.FinMap.{get-empty}
-use Rattle.kte_text.specs.declared.loading.Eol.TheVariants.{Lf}
+use Rattle.std.specs.FinMap.{get, empty, get-empty}
+use Rattle.kte_text.specs.Saving.{bytes_of}
+use Rattle.kte_text.specs.declared.loading.Eol.TheVariants.{CrLf, Lf}
 use Rattle.kte_text.specs.declared.primitive.Primitive.TheVariants.{Insert, Wrap, Unwrap, Remove}
 use Rattle.kte_text.specs.declared.primitive.Misfit.TheVariants.{NoLine, NoColumn, FirstLine}
 use Rattle.kte_place.specs.Ends.{Ends}
 use Rattle.kte_place.specs.declared.place.Place.{Place}
 use Rattle.kte_place.specs.declared.span.Empty.{Empty}
 use Rattle.kte_place.specs.declared.span.Empty.TheVariants.{Allow, Void}
+use Rattle.kte_find.specs.declared.rule.Rule.TheVariants.{Blanks, Pairs}
+use Rattle.kte_history.specs.declared.lock.Owner.TheVariants.{Job}
+use Rattle.kte_jobs.specs.declared.job.JobState.TheVariants.{Done}
 use Rattle.kte_edit.specs.declared.change.Change.{Change}
 use Rattle.kte_undo.specs.Groups.{Edits}
 use Rattle.kte_undo.specs.declared.step.Step.TheVariants as Step
-use Rattle.kte_core.specs.Editing.{text_of}
-use Rattle.kte_core.specs.React.{State, Reaction, react, react_cut, refused}
+use Rattle.kte_core.specs.Editing.{saved_form, text_of}
+use Rattle.kte_core.specs.Kept.{owed}
+use Rattle.kte_core.specs.State.{State, Reaction, refused, stands}
+use Rattle.kte_core.specs.Jobs.{found_at}
+use Rattle.kte_core.proofs.RangeLemmas.{get_here}
+use Rattle.kte_core.specs.React.{react, react_cut}
 use Rattle.kte_core.specs.Replay.{beginning, transactions}
 use Rattle.kte_core.specs.declared.event.Event.{Event}
 use Rattle.kte_core.specs.declared.reply.Reply.{Reply}
 use Rattle.kte_core.specs.declared.reply.Reply.TheVariants as reply
-use Rattle.kte_core.specs.declared.reply.Refusal.TheVariants.{Misfit, NotOpen, StillOpen, Nothing, RevisionsFull, NoRange, NotLocked, NotOwned}
+use Rattle.kte_core.specs.declared.reply.Refusal.TheVariants.{Misfit, NotOpen, StillOpen, Nothing, RevisionsFull, NoRange, NotLocked, NotOwned, NoJob, NotTaken, Closed}
 use Rattle.kte_core.specs.declared.request.Request.{Request}
-use Rattle.kte_core.specs.declared.request.Request.TheVariants.{Cmd}
-use Rattle.kte_command.specs.declared.command.Command.TheVariants.{Edit, Begin, End, Undo, Redo, MakeRange, SetRange, DropRange, ShowRange, Lock, Unlock, Land}
+use Rattle.kte_core.specs.declared.request.Request.TheVariants.{Cmd, Close, Take, Deliver, GiveBack, Outcome}
+use Rattle.kte_core.specs.declared.request.OutsideCall.TheVariants.{Save as Saved}
+use Rattle.kte_command.specs.declared.command.Command.TheVariants.{Edit, Begin, End, Undo, Redo, MakeRange, SetRange, DropRange, ShowRange, Lock, Unlock, Land, Check, Sync, Save}
 
 -- `hello` and an empty line, where two revisions can be made
 abbrev hello : State
@@ -267,3 +276,71 @@ finished : transactions (text (codes "ab" ∷ [])) (as_events (text (codes "ab" 
     (remove_first ∷ Cmd Begin ∷ put (Change.Wrap (place 0 0)) ∷ put (Change.Unwrap 1) ∷ Cmd End ∷ Cmd Begin ∷ Cmd End ∷ Cmd Undo ∷ Cmd Begin ∷ put (Change.Wrap (place 0 1)) ∷ []))
     ≡ (Remove 0 0 1 ∷ []) ∷ (Wrap 0 0 ∷ Unwrap 1 ∷ []) ∷ (Wrap 0 0 ∷ Unwrap 1 ∷ []) ∷ []
 finished = refl
+
+-- jobs
+
+-- lines with a blank at the end, in which many revisions can be made
+abbrev blanks : State
+blanks = text (codes "x" ∷ codes "a  " ∷ [])
+
+abbrev cut : Request
+cut = put (Change.Remove (span 0 1 1 3))
+
+-- a job is posted, taken at revision 0, and delivered after the text has changed and is as it was
+abbrev checked : State
+checked = after_requests blanks (Cmd (Check Blanks) ∷ Take ∷ cut ∷ Cmd Undo ∷ Deliver 1 (span 1 1 1 3 ∷ []) ∷ Close ∷ [])
+
+check-replies : replies blanks (Cmd (Check Blanks) ∷ Take ∷ cut ∷ Cmd Undo ∷ Deliver 1 (span 1 1 1 3 ∷ []) ∷ Close ∷ [])
+    ≡ reply.Posted 1 ∷ reply.Took 1 0 ∷ reply.Edited 2 2 0 ∷ reply.Edited 2 4 0 ∷ reply.Delivered 1 1 1 ∷ reply.Closed ∷ []
+check-replies = refl
+
+-- the finding was of the text before, so its range is invalid
+check-range : stands checked.editing (found_at 1 0 (span 1 1 1 3)) ≡ None
+check-range = refl
+
+check-there : get checked.ranges 1 ≡ Some (found_at 1 0 (span 1 1 1 3))
+check-there = get_here empty 1 (found_at 1 0 (span 1 1 1 3))
+
+check-done : checked.jobs ≡ record { rule = Blanks; state = Done } ∷ []
+check-done = refl
+
+check-unlocked : checked.locks ≡ []
+check-unlocked = refl
+
+check-locked : (after_requests blanks (Cmd (Check Blanks) ∷ Take ∷ [])).locks ≡ record { owner = Job 1; revision = 0 } ∷ []
+check-locked = refl
+
+-- a job that was given back is taken by another seat
+given_back : replies blanks (Cmd (Check Blanks) ∷ Take ∷ GiveBack 1 ∷ GiveBack 1 ∷ Take ∷ [])
+    ≡ reply.Posted 1 ∷ reply.Took 1 0 ∷ reply.Returned 1 ∷ reply.Refused (NotTaken 1) ∷ reply.Took 1 0 ∷ []
+given_back = refl
+
+-- another seat has not taken it
+not_taken : (react (after_requests blanks (Cmd (Check Blanks) ∷ Take ∷ [])) 1 (Deliver 1 [])).reply ≡ reply.Refused (NotTaken 1)
+not_taken = refl
+
+-- no job waits, and none will
+no_job : replies blanks (Take ∷ Close ∷ Take ∷ []) ≡ reply.Refused (NoJob false) ∷ reply.Closed ∷ reply.Refused (NoJob true) ∷ []
+no_job = refl
+
+-- a session is closed once, and at whatever depth
+closed : replies blanks (Cmd Begin ∷ Close ∷ Close ∷ Cmd (Check Blanks) ∷ Outcome Saved true ∷ [])
+    ≡ reply.Depth 1 ∷ reply.Closed ∷ reply.Refused Closed ∷ reply.Refused Closed ∷ reply.Noted ∷ []
+closed = refl
+
+-- what is to be done outside waits for the end of the transaction
+outside : replies blanks (Cmd Begin ∷ Cmd Sync ∷ Cmd Save ∷ Cmd End ∷ Cmd Sync ∷ Cmd Save ∷ [])
+    ≡ reply.Depth 1 ∷ reply.Refused (StillOpen 1) ∷ reply.Refused (StillOpen 1) ∷ reply.Depth 0 ∷ reply.Asked ∷ reply.Asked ∷ []
+outside = refl
+
+-- what is saved has the loaded file's line end and mark
+saved : saved_form (after_requests (beginning (record { text = codes "a" ∷ codes "b" ∷ []; eol = CrLf; bom = true }) 9) (put (Change.Unwrap 1) ∷ [])).editing
+    ≡ bytes_of (codes "ab" ∷ []) CrLf true
+saved = refl
+
+-- room is kept for the first close, and for the return of each job that is taken
+kept : owed (after_requests blanks (Cmd (Check Blanks) ∷ Cmd (Check Pairs) ∷ Take ∷ Take ∷ GiveBack 1 ∷ [])) ≡ 2
+kept = refl
+
+kept-closed : owed checked ≡ 0
+kept-closed = refl

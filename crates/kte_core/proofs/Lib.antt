@@ -1,7 +1,13 @@
 mod Examples
+pub mod LockLemmas
+pub mod JobLemmas
 pub mod RangeLemmas
+pub mod FindingLemmas
 pub mod EditLemmas
+pub mod RisesLemmas
 pub mod ReplayLemmas
+pub mod AnswerLemmas
+pub mod CallerLemmas
 pub mod RevisionLemmas
 pub mod GroupLemmas
 pub mod StepLemmas
@@ -9,3 +15,13 @@ pub mod UndoLemmas
 pub mod TransactionLemmas
 pub mod CarryLemmas
 pub mod SteadyLemmas
+pub mod CaseLemmas
+pub mod OneJobLemmas
+pub mod KeptLemmas
+pub mod AllJobLemmas
+pub mod SeatLemmas
+pub mod TakeLemmas
+pub mod CountLemmas
+pub mod JournalLemmas
+pub mod FindingPropLemmas
+pub mod PropLemmas

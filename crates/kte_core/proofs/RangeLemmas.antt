@@ -11,7 +11,8 @@ use Rattle.kte_place.specs.declared.span.Empty.{Empty}
 use Rattle.kte_ranges.specs.declared.info.RangeKind.TheVariants.{User}
 use Rattle.kte_doc.specs.Documents.{Document, CameBy}
 use Rattle.kte_doc.specs.Standings.{Standing, Standings, new_range, reset_to}
-use Rattle.kte_core.specs.React.{Range, State, made_now, set_now, placed, set_range, drop_range, react_command}
+use Rattle.kte_core.specs.State.{Range, State, made_now, set_now}
+use Rattle.kte_core.specs.React.{placed, set_range, drop_range, react_command}
 use Rattle.kte_core.specs.Shown.{range_of, told_of, IsOf, Replies}
 use Rattle.kte_core.specs.declared.reply.Reply.{Reply}
 use Rattle.kte_core.specs.declared.reply.Reply.TheVariants as reply
@@ -43,7 +44,7 @@ same_remove standings ranges id same q =
 here : (id : ℕ) → eq_by_cmp nat_cmp id id ≡ true
 here id = (eq_by_cmp_equiv nat_cmp_total).refl id
 
-get_here : {X : Type 0} (m : FinMap nat_cmp X) (id : ℕ) (x : X) → get (insert m id x) id ≡ Some x
+pub get_here : {X : Type 0} (m : FinMap nat_cmp X) (id : ℕ) (x : X) → get (insert m id x) id ≡ Some x
 get_here m id x = get-insert nat_cmp_total m id x id ∙ ap (λ b. cond b (Some x) (get m id)) (here id)
 
 -- a range that was put under a number, and where it stands

@@ -1,5 +1,5 @@
 -- What one more event makes of a replay.
-use Rattle.std.proofs.Common.{◌≡◌, ℕ, ◌+◌, ◌≤◌, List, [], ◌∷◌, ◌++◌, length, take, Option, Some, None, refl, ap, sym, subst, ◌∙◌, arith, append-nil, append_assoc}
+use Rattle.std.proofs.Common.{◌≡◌, ℕ, ◌+◌, ◌-◌, ◌<◌, ◌≤◌, ◌^◌, false, List, [], ◌∷◌, ◌++◌, length, Some, refl, ap, sym, subst, ◌∙◌, arith, append-nil, append_assoc}
 use Rattle.std.specs.Option.{option_map, option_to_list}
 use Rattle.std.specs.Ordering.{nat_cmp}
 use Rattle.std.specs.FinMap.{get, empty, get-empty}
@@ -9,42 +9,48 @@ use Rattle.kte_text.specs.Primitives.{FitInTurn}
 use Rattle.kte_text.specs.Texts.{IsText}
 use Rattle.kte_text.specs.declared.primitive.Primitive.{Primitive}
 use Rattle.kte_text.specs.declared.loading.Loaded.{Loaded}
-use Rattle.kte_history.specs.declared.lock.Owner.TheVariants.{Editor}
+use Rattle.kte_history.specs.declared.lock.Owner.TheVariants as owner
 use Rattle.kte_history.specs.Locks.{has_lock}
-use Rattle.kte_doc.specs.Documents.{CameBy}
+use Rattle.kte_doc.specs.Documents.{Document, CameBy}
 use Rattle.kte_doc.specs.Standings.{Standings}
-use Rattle.kte_edit.specs.Steps.{steps_of}
-use Rattle.kte_undo.specs.Steps.{steps_along, redo_of}
+use Rattle.kte_undo.specs.Steps.{redo_of}
 use Rattle.kte_undo.specs.Groups.{Edits}
-use Rattle.kte_command.specs.declared.command.Command.{Command}
-use Rattle.kte_command.specs.declared.command.Command.TheVariants.{Edit, Begin, End, Undo, Redo, MakeRange, SetRange, DropRange, ShowRange, Lock, Unlock, Land}
-use Rattle.kte_core.specs.Editing.{Editing, EditReaction, text_of, judged, not_open, closing, changed, undone, redone, undo_steps, redo_steps, change_refusal, group_refusal, cut_reaction}
+use Rattle.kte_text.specs.Saving.{bytes_of}
+use Rattle.kte_core.specs.Editing.{saved_form, text_of}
 use Rattle.kte_core.specs.Groups.{GroupsFit, IsFilled}
-use Rattle.kte_core.specs.React.{State, Reaction, react, react_by, react_command, edited, cut_at, CutsBetween, can_land_from}
+use Rattle.kte_core.specs.State.{State, Reaction}
+use Rattle.kte_core.specs.React.{react, react_by, cut_at, CutsBetween}
 use Rattle.kte_core.specs.Requests.{IsAllowed}
-use Rattle.kte_core.specs.Replay.{Session, beginning, present, replay, came_of, after_event, transactions, primitives_in, IsLegal, Legal}
-use Rattle.kte_core.specs.Shown.{range_of, IsOf, Meets, Reacts}
+use Rattle.kte_core.specs.Replay.{Session, beginning, present, replay, came_of, after_event, transactions, primitives_in, IsAnswered, Answered}
+use Rattle.kte_core.specs.Shown.{range_of, IsOf, Answers, Reacts, Shows}
+use Rattle.kte_core.specs.Jobs.{AreLocked, KeepsRevisions, taken_at}
+use Rattle.kte_core.specs.Kept.{owed, kept_after}
+use Rattle.kte_jobs.specs.Job.{Job}
+use Rattle.kte_history.specs.declared.lock.Lock.{Lock}
 use Rattle.kte_core.specs.Inside.{session_of, IsSound}
 use Rattle.kte_core.specs.declared.session.Core.TheInside.{Inside}
+use Rattle.kte_core.specs.declared.present.Present.{Present}
 use Rattle.kte_core.specs.declared.event.Event.{Event}
 use Rattle.kte_core.specs.declared.event.Step.{Step}
 use Rattle.kte_core.specs.declared.reply.Reply.{Reply}
-use Rattle.kte_core.specs.declared.reply.Reply.TheVariants as reply
-use Rattle.kte_core.specs.declared.reply.Refusal.{Refusal}
-use Rattle.kte_core.specs.declared.request.Request.{Request}
-use Rattle.kte_core.specs.declared.request.Request.TheVariants.{Cmd}
 use Rattle.kte_core.proofs.GroupLemmas.{Leads-none}
-use Rattle.kte_core.proofs.TransactionLemmas.{IsStill, Parts, depth-ended, depth-noted, parts-by, still-set, still-drop, still-show, still-unlock, still-land}
+use Rattle.std.proofs.lemmas.Option.{slice_get_within}
+use Rattle.kte_jobs.specs.declared.job.JobState.TheVariants.{Taken}
+use Rattle.kte_jobs.proofs.JobLemmas.{stands}
+use Rattle.kte_core.proofs.JobLemmas.{taken_state}
+use Rattle.kte_core.proofs.RisesLemmas.{rises, owed_within}
+use Rattle.kte_core.proofs.TransactionLemmas.{Parts, parts-by}
 
 -- one event more is one reaction more
 pub replay-push : (state : State) (events : List Event) (event : Event) → replay state (events ++ event ∷ []) ≡ after_event (replay state events) event
 replay-push state [] event = refl
 replay-push state (first ∷ events) event = replay-push (after_event state first) events event
 
--- one more event that may come keeps a journal legal
-pub Legal-push : (state : State) (events : List Event) (event : Event) → Legal state events → IsLegal (replay state events) event → Legal state (events ++ event ∷ [])
-Legal-push state [] event legal last = (last, tt)
-Legal-push state (first ∷ events) event legal last = (legal.0, Legal-push (after_event state first) events event legal.1 last)
+-- a journal stays answered by one more event that is
+pub Answered-push : (state : State) (events : List Event) (event : Event) → Answered state events → IsAnswered (replay state events) event
+    → Answered state (events ++ event ∷ [])
+Answered-push state [] event answered last = (last, tt)
+Answered-push state (first ∷ events) event answered last = (answered.0, Answered-push (after_event state first) events event answered.1 last)
 
 -- one more event finishes one transaction at most
 transactions-push : (state : State) (events : List Event) (event : Event)
@@ -55,109 +61,25 @@ transactions-push state (first ∷ events) event =
     ∙ sym (append_assoc (option_to_list (came_of state first).finished) (transactions (after_event state first) events)
     (option_to_list (came_of (replay (after_event state first) events) event).finished))
 
--- What each reaction keeps: what was loaded; and the next number and the depth rise by one at most
-pub record Rises (state : State) (reaction : Reaction) : Type 0 where
-  pub next_id : reaction.after.next_id ≤ state.next_id + 1
-  pub depth : reaction.after.editing.edits.depth ≤ state.editing.edits.depth + 1
-  pub loaded : reaction.after.editing.loaded ≡ state.editing.loaded
-
-rises-judged : (judgement : Option Refusal) (state : State) (made : EditReaction) → made.after.edits.depth ≤ state.editing.edits.depth + 1
-    → made.after.loaded ≡ state.editing.loaded → Rises state (edited state (judged judgement state.editing made))
-rises-judged None state made depth loaded = record { next_id = omega arith; depth = depth; loaded = loaded }
-rises-judged (Some cause) state made depth loaded = record { next_id = omega arith; depth = omega arith; loaded = refl }
-
-rises-still : (state : State) (reaction : Reaction) → IsStill state reaction → Rises state reaction
-rises-still state reaction still = record {
-  next_id = still.next_id;
-  depth = omega (arith, ap (λ (e : Editing). e.edits.depth) still.editing);
-  loaded = ap (λ (e : Editing). e.loaded) still.editing;
-}
-
-rises-made : (state : State) (made : EditReaction) → made.after.edits.depth ≤ state.editing.edits.depth + 1
-    → made.after.loaded ≡ state.editing.loaded → Rises state (edited state made)
-rises-made state made depth loaded = record { next_id = omega arith; depth = depth; loaded = loaded }
-
-change-depth : (state : State) (ps : List Primitive) (told : ℕ → ℕ → ℕ → Reply)
-    → (changed told state.editing ps).after.edits.depth ≤ state.editing.edits.depth + 1
-change-depth state ps told = omega (arith, depth-noted (steps_along ps (text_of state.editing)) state.editing.edits)
-
-rises-react : (state : State) (command : Command) → Rises state (react_command state command)
-rises-react state (Edit change) =
-    rises-judged (change_refusal state.editing change) state (changed reply.Edited state.editing (steps_of change (text_of state.editing)))
-    (change-depth state (steps_of change (text_of state.editing)) reply.Edited) refl
-rises-react state Begin = record { next_id = omega arith; depth = omega arith; loaded = refl }
-rises-react state End =
-    rises-judged (not_open state.editing.edits.depth) state (closing state.editing) (omega (arith, depth-ended state.editing.edits)) refl
-rises-react state Undo =
-    rises-judged (group_refusal state.editing state.editing.edits.undo (undo_steps state.editing)) state
-    (undone reply.Edited state.editing (undo_steps state.editing)) (omega arith) refl
-rises-react state Redo =
-    rises-judged (group_refusal state.editing state.editing.edits.redo (redo_steps state.editing)) state
-    (redone reply.Edited state.editing (redo_steps state.editing)) (omega arith) refl
-rises-react state (MakeRange span expand empty) = record { next_id = omega arith; depth = omega arith; loaded = refl }
-rises-react state (SetRange id span) = rises-still state _ (still-set state id span (get state.ranges id))
-rises-react state (DropRange id) = rises-still state _ (still-drop state id (get state.ranges id))
-rises-react state (ShowRange id) = rises-still state _ (still-show state id (get state.ranges id))
-rises-react state Lock = record { next_id = omega arith; depth = omega arith; loaded = refl }
-rises-react state (Unlock revision) = rises-still state _ (still-unlock state revision (has_lock state.locks Editor revision))
-rises-react state (Land revision span expand empty) =
-    rises-still state _ (still-land state revision span expand empty (can_land_from state revision))
-
-rises-cut : (state : State) (command : Command) (n : ℕ) → Rises state (edited state (cut_reaction state.editing command n))
-rises-cut state (Edit change) n =
-    rises-made state (changed reply.Cut state.editing (take n (steps_of change (text_of state.editing))))
-    (change-depth state (take n (steps_of change (text_of state.editing))) reply.Cut) refl
-rises-cut state Begin n = record { next_id = omega arith; depth = omega arith; loaded = refl }
-rises-cut state End n = record { next_id = omega arith; depth = omega arith; loaded = refl }
-rises-cut state Undo n = record { next_id = omega arith; depth = omega arith; loaded = refl }
-rises-cut state Redo n = record { next_id = omega arith; depth = omega arith; loaded = refl }
-rises-cut state (MakeRange span expand empty) n = record { next_id = omega arith; depth = omega arith; loaded = refl }
-rises-cut state (SetRange id span) n = record { next_id = omega arith; depth = omega arith; loaded = refl }
-rises-cut state (DropRange id) n = record { next_id = omega arith; depth = omega arith; loaded = refl }
-rises-cut state (ShowRange id) n = record { next_id = omega arith; depth = omega arith; loaded = refl }
-rises-cut state Lock n = record { next_id = omega arith; depth = omega arith; loaded = refl }
-rises-cut state (Unlock revision) n = record { next_id = omega arith; depth = omega arith; loaded = refl }
-rises-cut state (Land revision span expand empty) n = record { next_id = omega arith; depth = omega arith; loaded = refl }
-
-pub rises : (state : State) (seat : ℕ) (request : Request) (o : Option ℕ) → Rises state (react_by state seat request o)
-rises state seat (Cmd command) None = rises-react state command
-rises state seat (Cmd command) (Some n) = rises-cut state command n
-
 pub loaded-replay : (state : State) (events : List Event) → (replay state events).editing.loaded ≡ state.editing.loaded
 loaded-replay state [] = refl
 loaded-replay state (event ∷ events) =
     loaded-replay (after_event state event) events ∙ (rises state event.seat event.request (cut_at event.reply)).loaded
 
-next_id-replay : (state : State) (events : List Event) → (replay state events).next_id ≤ state.next_id + length events
-next_id-replay state [] = omega arith
-next_id-replay state (event ∷ events) =
-    let first : (after_event state event).next_id ≤ state.next_id + 1 = (rises state event.seat event.request (cut_at event.reply)).next_id in
-    let rest = next_id-replay (after_event state event) events in
-    omega arith
-
-depth-replay : (state : State) (events : List Event) → (replay state events).editing.edits.depth ≤ state.editing.edits.depth + length events
-depth-replay state [] = omega arith
-depth-replay state (event ∷ events) =
-    let first : (after_event state event).editing.edits.depth ≤ state.editing.edits.depth + 1 = (rises state event.seat event.request (cut_at event.reply)).depth in
-    let rest = depth-replay (after_event state event) events in
-    omega arith
-
--- so many events need at most so many numbers
-pub next_id-sound : (core : Inside) → IsSound core → core.doc.next ≤ 1 + length core.journal
-next_id-sound core sound =
-    rw sound.document.next_id (next_id-replay (beginning core.loaded core.limit) core.journal)
-
--- .. and open at most so many transactions
-pub depth-sound : (core : Inside) → IsSound core → core.undo.edits.depth ≤ length core.journal
-depth-sound core sound =
-    let rest = depth-replay (beginning core.loaded core.limit) core.journal in
-    rw sound.edits (omega (arith, rest))
+-- without jobs none is taken
+none_kept : (state : State) → state.jobs ≡ [] → KeepsRevisions state
+none_kept state none = λ job seat revision taken.
+    let is : taken_at [] seat job ≡ Some revision = ap (λ (js : List Job). taken_at js seat job) (sym none) ∙ taken in
+    let at = stands [] job (Taken seat revision) (taken_state [] seat job revision is) in
+    let within = slice_get_within [] (job - 1) at.0 at.2 in
+    absurd (omega arith)
 
 -- a core without events is sound where its document is the loaded text
-pub IsSound-new : (core : Inside) → core.journal ≡ [] → IsText core.loaded.text → CameBy core.loaded.text [] core.doc
-    → core.doc.limit ≡ core.limit → core.doc.ranges ≡ empty → core.doc.next ≡ 1 → core.doc.locks ≡ []
-    → core.undo.edits ≡ record { depth = 0; current = []; undo = []; redo = [] } → IsSound core
-IsSound-new core none whole came limit ranges next_id locks edits =
+pub IsSound-new : (core : Inside) → core.journal.events ≡ [] → IsText core.loaded.text → CameBy core.loaded.text [] core.present.doc
+    → core.present.doc.limit ≡ core.limit → core.present.doc.ranges ≡ empty → core.present.doc.next ≡ 1 → core.present.doc.locks ≡ []
+    → core.present.undo.edits ≡ record { depth = 0; current = []; undo = []; redo = [] } → core.present.jobs ≡ []
+    → core.present.is_closed ≡ false → core.kept ≡ 1 → core.kept ≤ core.journal.room → IsSound core
+IsSound-new core none whole came limit ranges next_id locks edits jobs closed kept room =
     let text = came.text in
     let start = Leads-none core.loaded.text whole in
     let fit : GroupsFit (record { depth = 0; current = []; undo = []; redo = [] }) core.loaded.text = record {
@@ -169,32 +91,33 @@ IsSound-new core none whole came limit ranges next_id locks edits =
       redo = start;
       undo_filled = All-nil IsFilled;
       redo_filled = All-nil IsFilled;
-      shut = λ zero. refl;
+      shut = λ closed. refl;
     } in
     record {
-      document = rw none (record {
-        came = came;
-        limit = limit;
-        ranges = λ id. ap (λ (ranges : Standings). option_map range_of (get ranges id)) ranges ∙ ap (option_map range_of) (get-empty nat_cmp id) ∙ sym (get-empty nat_cmp id);
-        next_id = next_id;
-        locks = locks;
+      shows = rw none (record {
+        document = record {
+          came = came;
+          limit = limit;
+          ranges = λ id. ap (λ (ranges : Standings). option_map range_of (get ranges id)) ranges ∙ ap (option_map range_of) (get-empty nat_cmp id) ∙ sym (get-empty nat_cmp id);
+          next_id = next_id;
+          locks = locks;
+        };
+        edits = edits;
+        jobs = jobs;
+        closed = closed;
       });
-      edits = rw none edits;
-      fit = subst (λ (e : Edits). GroupsFit e core.doc.text) (sym edits) (subst (λ (t : List (List ℕ)). GroupsFit (record { depth = 0; current = []; undo = []; redo = [] }) t) (sym text) fit);
-      legal = rw none tt;
+      fit = subst (λ (e : Edits). GroupsFit e core.present.doc.text) (sym edits) (subst (λ (t : List (List ℕ)). GroupsFit (record { depth = 0; current = []; undo = []; redo = [] }) t) (sym text) fit);
+      locked = rw none (none_kept (beginning core.loaded core.limit) refl);
+      kept = rw none kept;
+      room = room;
+      answered = rw none tt;
       parted = rw none refl;
     }
 
--- a command is the same from each seat
-react_by-seat : (state : State) (seat : ℕ) (request : Request) (o : Option ℕ) → react_by state 0 request o ≡ react_by state seat request o
-react_by-seat state seat (Cmd command) None = refl
-react_by-seat state seat (Cmd command) (Some n) = refl
-
 -- what came of an event with the reply of a step
-came_is : (state : State) (event : Event) (step : Step) → event.reply ≡ step.reply → react_by state 0 event.request (cut_at step.reply) ≡ came_of state event
-came_is state event step reply =
-    react_by-seat state event.seat event.request (cut_at step.reply)
-    ∙ ap (λ (r : Reply). react_by state event.seat event.request (cut_at r)) (sym reply)
+came_is : (state : State) (event : Event) (step : Step) → event.reply ≡ step.reply
+    → react_by state event.seat event.request (cut_at step.reply) ≡ came_of state event
+came_is state event step reply = ap (λ (r : Reply). react_by state event.seat event.request (cut_at r)) (sym reply)
 
 -- the primitives after one event more
 parted-push : (start : State) (events : List Event) (event : Event)
@@ -220,63 +143,125 @@ parted-push start events event parted parts =
 -- outside of a transaction no step is in the open group
 shut_sound : (core : Inside) → IsSound core → (present (session_of core)).editing.edits.depth ≡ 0
     → (present (session_of core)).editing.edits.current ≡ []
-shut_sound core sound zero =
-    sym (ap (λ (e : Edits). e.current) sound.edits) ∙ sound.fit.shut (ap (λ (e : Edits). e.depth) sound.edits ∙ zero)
+shut_sound core sound shut =
+    sym (ap (λ (e : Edits). e.current) sound.shows.edits) ∙ sound.fit.shut (ap (λ (e : Edits). e.depth) sound.shows.edits ∙ shut)
 
--- a core that is sound stays so by a step that meets the reaction, and its event
+-- a core that is sound stays so by a step that answers a request, and its event
 pub IsSound-step : (core later : Inside) (event : Event) (step : Step) → IsSound core → later.loaded ≡ core.loaded → later.limit ≡ core.limit
-    → later.journal ≡ core.journal ++ event ∷ [] → IsAllowed event.seat event.request → event.reply ≡ step.reply
-    → Meets (present (session_of core)) 0 event.request step later.doc later.undo.edits → GroupsFit later.undo.edits later.doc.text → IsSound later
-IsSound-step core later event step sound loaded limit journal allowed reply meets fit =
+    → later.journal.events ≡ core.journal.events ++ event ∷ [] → IsAllowed event.seat event.request → event.reply ≡ step.reply
+    → Answers (present (session_of core)) event.seat event.request step later.present
+    → GroupsFit later.present.undo.edits later.present.doc.text → later.kept ≡ kept_after core.kept step.reply
+    → later.kept ≤ later.journal.room → IsSound later
+IsSound-step core later event step sound loaded limit journal allowed reply answers fit kept room =
     let first = beginning core.loaded core.limit in
     let state = present (session_of core) in
     let came = came_of state event in
     let is = came_is state event step reply in
     let start : beginning later.loaded later.limit ≡ first =
     ap (λ (l : Loaded). beginning l later.limit) loaded ∙ ap (beginning core.loaded) limit in
-    let after : meets.after ≡ came.after = meets.reacts.leads ∙ ap (λ (r : Reaction). r.after) is in
+    let after : answers.after ≡ came.after = answers.reacts.leads ∙ ap (λ (r : Reaction). r.after) is in
     let now : present (session_of later) ≡ came.after =
-    ap (λ (s : State). replay s later.journal) start ∙ ap (replay first) journal ∙ replay-push first core.journal event in
-    let shown : IsOf came.after later.doc = subst (λ (s : State). IsOf s later.doc) after meets.document in
+    ap (λ (s : State). replay s later.journal.events) start ∙ ap (replay first) journal ∙ replay-push first core.journal.events event in
+    let shown : Shows came.after later.present = subst (λ (s : State). Shows s later.present) after answers.shows in
     let cut : CutsBetween (react state event.seat event.request).made (cut_at event.reply) =
-    subst (λ (r : Reply). CutsBetween (react state event.seat event.request).made (cut_at r)) (sym reply)
-    (subst (λ (r : Reaction). CutsBetween r.made (cut_at step.reply)) (react_by-seat state event.seat event.request None) meets.reacts.cut) in
-    let same = (rises state event.seat event.request (cut_at event.reply)).loaded in
+    subst (λ (r : Reply). CutsBetween (react state event.seat event.request).made (cut_at r)) (sym reply) answers.reacts.cut in
+    let replied : event.reply ≡ came.reply = reply ∙ answers.reacts.reply ∙ ap (λ (r : Reaction). r.reply) is in
+    let rising = rises state event.seat event.request (cut_at event.reply) in
     let turn : FitInTurn came.after.editing.trail state.editing.loaded.text =
-    subst (λ (l : Loaded). FitInTurn came.after.editing.trail l.text) same shown.came.fits in
-    let parts = parts-by state event.seat event.request (cut_at event.reply) (λ zero. shut_sound core sound zero) cut turn in
-    let parted = parted-push first core.journal event sound.parted parts in
+    subst (λ (l : Loaded). FitInTurn came.after.editing.trail l.text) rising.loaded shown.document.came.fits in
+    let parts = parts-by state event.seat event.request (cut_at event.reply) (λ shut. shut_sound core sound shut) cut turn in
+    let parted = parted-push first core.journal.events event sound.parted parts in
     record {
-      document = subst (λ (s : State). IsOf s later.doc) (sym now) shown;
-      edits = meets.edits ∙ ap (λ (s : State). s.editing.edits) (after ∙ sym now);
+      shows = subst (λ (s : State). Shows s later.present) (sym now) shown;
       fit = fit;
-      legal = subst (λ (s : State). Legal s later.journal) (sym start) (subst (Legal first) (sym journal)
-          (Legal-push first core.journal event sound.legal (record {
-            allowed = allowed;
-            reply = reply ∙ meets.reacts.reply ∙ ap (λ (r : Reaction). r.reply) is;
-            cut = cut;
-          })));
+      locked = subst KeepsRevisions (sym now) (rising.locked sound.locked);
+      kept = kept ∙ ap (λ (n : ℕ). kept_after n step.reply) sound.kept
+          ∙ ap (kept_after (owed state)) (answers.reacts.reply ∙ ap (λ (r : Reaction). r.reply) is)
+          ∙ sym rising.owes ∙ ap owed (sym now);
+      room = room;
+      answered = subst (λ (s : State). Answered s later.journal.events) (sym start) (subst (Answered first) (sym journal)
+          (Answered-push first core.journal.events event sound.answered (record { allowed = allowed; reply = replied; cut = cut })));
       parted = ap (λ (s : State). s.editing.trail) now ∙ parted
           ∙ ap (λ (events : List Event). primitives_in (transactions first events) ++ redo_of came.after.editing.edits.current) (sym journal)
-          ∙ ap (λ (s : State). primitives_in (transactions s later.journal) ++ redo_of came.after.editing.edits.current) (sym start)
-          ∙ ap (λ (s : State). primitives_in (transactions (beginning later.loaded later.limit) later.journal) ++ redo_of s.editing.edits.current) (sym now);
+          ∙ ap (λ (s : State). primitives_in (transactions s later.journal.events) ++ redo_of came.after.editing.edits.current) (sym start)
+          ∙ ap (λ (s : State). primitives_in (transactions (beginning later.loaded later.limit) later.journal.events) ++ redo_of s.editing.edits.current) (sym now);
     }
 
--- a step reacts to the seat that asked, and leads to the state after its event
+-- a step leads to the state after its event
 pub Reacts-push : (session later : Session) (event : Event) (step : Step) (after : State) → later.loaded ≡ session.loaded → later.limit ≡ session.limit
-    → later.events ≡ session.events ++ event ∷ [] → event.reply ≡ step.reply → Reacts (present session) 0 event.request step after
+    → later.events ≡ session.events ++ event ∷ [] → event.reply ≡ step.reply → Reacts (present session) event.seat event.request step after
     → Reacts (present session) event.seat event.request step (present later)
 Reacts-push session later event step after loaded limit events reply reacts =
     let state = present session in
-    let is = react_by-seat state event.seat event.request (cut_at step.reply) in
     let first = beginning session.loaded session.limit in
     let start : beginning later.loaded later.limit ≡ first =
     ap (λ (l : Loaded). beginning l later.limit) loaded ∙ ap (beginning session.loaded) limit in
     let now : present later ≡ (came_of state event).after =
     ap (λ (s : State). replay s later.events) start ∙ ap (replay first) events ∙ replay-push first session.events event in
     record {
-      reply = reacts.reply ∙ ap (λ (r : Reaction). r.reply) is;
-      made = reacts.made ∙ ap (λ (r : Reaction). r.made) is;
+      reply = reacts.reply;
+      made = reacts.made;
       leads = now ∙ ap (λ (r : Reply). (react_by state event.seat event.request (cut_at r)).after) reply;
-      cut = subst (λ (r : Reaction). CutsBetween r.made (cut_at step.reply)) (react_by-seat state event.seat event.request None) reacts.cut;
+      cut = reacts.cut;
     }
+
+-- what is locked for the jobs that are held
+pub locked_sound : (core : Inside) → IsSound core → AreLocked core.present.jobs core.present.doc.locks
+locked_sound core sound = λ job seat revision taken.
+    let kept = sound.locked job seat revision (ap (λ (js : List Job). taken_at js seat job) (sym sound.shows.jobs) ∙ taken) in
+    ap (λ (locks : List Lock). has_lock locks (owner.Job job) revision) sound.shows.document.locks ∙ kept.locked
+
+-- a core that holds the same stays sound, with more room
+pub IsSound-again : (core later : Inside) → IsSound core → later.loaded ≡ core.loaded → later.limit ≡ core.limit
+    → later.present ≡ record core.present { undo = later.present.undo } → later.present.undo.edits ≡ core.present.undo.edits
+    → later.kept ≡ core.kept → later.journal.events ≡ core.journal.events → later.kept ≤ later.journal.room → IsSound later
+IsSound-again core later sound loaded limit held edits kept events room =
+    let first : beginning core.loaded core.limit ≡ beginning later.loaded later.limit =
+    ap (λ (l : Loaded). beginning l core.limit) (sym loaded) ∙ ap (beginning later.loaded) (sym limit) in
+    let now : present (session_of core) ≡ present (session_of later) =
+    ap (λ (s : State). replay s core.journal.events) first ∙ ap (replay (beginning later.loaded later.limit)) (sym events) in
+    let doc = ap (λ (p : Present). p.doc) held in
+    record {
+      shows = subst (λ (s : State). Shows s later.present) now (record {
+        document = subst (λ (d : Document). IsOf (present (session_of core)) d) (sym doc) sound.shows.document;
+        edits = edits ∙ sound.shows.edits;
+        jobs = ap (λ (p : Present). p.jobs) held ∙ sound.shows.jobs;
+        closed = ap (λ (p : Present). p.is_closed) held ∙ sound.shows.closed;
+      });
+      fit = subst (λ (e : Edits). GroupsFit e later.present.doc.text) (sym edits)
+          (subst (λ (d : Document). GroupsFit core.present.undo.edits d.text) (sym doc) sound.fit);
+      locked = subst KeepsRevisions now sound.locked;
+      kept = kept ∙ sound.kept ∙ ap owed now;
+      room = room;
+      answered = subst (λ (s : State). Answered s later.journal.events) first
+          (subst (λ (e : List Event). Answered (beginning core.loaded core.limit) e) (sym events) sound.answered);
+      parted = ap (λ (s : State). s.editing.trail) (sym now) ∙ sound.parted
+          ∙ ap (λ (e : List Event). primitives_in (transactions (beginning core.loaded core.limit) e)
+          ++ redo_of (present (session_of core)).editing.edits.current) (sym events)
+          ∙ ap (λ (s : State). primitives_in (transactions s later.journal.events) ++ redo_of (present (session_of core)).editing.edits.current) first
+          ∙ ap (λ (s : State). primitives_in (transactions (beginning later.loaded later.limit) later.journal.events) ++ redo_of s.editing.edits.current) now;
+    }
+
+-- room is kept for few events
+pub kept_small : (core : Inside) (session : Session) → IsSound core → session_of core ≡ session → length (present session).jobs < 2 ^ 32 - 1
+    → core.kept < 2 ^ 32
+kept_small core session sound same few =
+    let within : owed (present (session_of core)) ≤ 1 + length (present (session_of core)).jobs = owed_within (present (session_of core)) in
+    let jobs = ap (λ (s : Session). length (present s).jobs) same in
+    let kept = sound.kept in
+    omega arith
+
+-- what is saved is what is held, with the line end and the mark of what was loaded
+pub saved_sound : (core : Inside) (session : Session) → IsSound core → session_of core ≡ session
+    → bytes_of core.present.doc.text core.loaded.eol core.loaded.bom ≡ saved_form (present session).editing
+saved_sound core session sound same =
+    let now = present (session_of core) in
+    let loaded : now.editing.loaded ≡ core.loaded = loaded-replay (beginning core.loaded core.limit) core.journal.events in
+    ap (λ (text : List (List ℕ)). bytes_of text core.loaded.eol core.loaded.bom) sound.shows.document.came.text
+    ∙ ap (λ (l : Loaded). bytes_of (text_of now.editing) l.eol l.bom) (sym loaded)
+    ∙ ap (λ (s : Session). saved_form (present s).editing) same
+
+-- what was loaded stays, so a state knows its line end and its mark
+pub loaded_sound : (core : Inside) (session : Session) → session_of core ≡ session → core.loaded ≡ (present session).editing.loaded
+loaded_sound core session same =
+    sym (loaded-replay (beginning core.loaded core.limit) core.journal.events) ∙ ap (λ (s : Session). (present s).editing.loaded) same

@@ -14,7 +14,8 @@ use Rattle.kte_history.specs.Revisions.{kept_since, can_land}
 use Rattle.kte_doc.specs.Documents.{Document, CameBy, KeepsTrail, history_of}
 use Rattle.kte_doc.specs.Trail.{stand}
 use Rattle.kte_core.specs.Editing.{revision_of}
-use Rattle.kte_core.specs.React.{State, can_land_from, land, unlock, react_command}
+use Rattle.kte_core.specs.State.{State}
+use Rattle.kte_core.specs.React.{can_land_from, land, unlock, react_command}
 use Rattle.kte_core.specs.Shown.{range_of, IsOf, Replies}
 use Rattle.kte_core.specs.declared.reply.Reply.TheVariants as reply
 use Rattle.kte_core.specs.declared.reply.Refusal.TheVariants as refusal

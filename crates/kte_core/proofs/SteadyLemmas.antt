@@ -1,4 +1,4 @@
--- In every legal session the groups fit the text, and the primitives are those of its transactions.
+-- In every session the groups fit the text, and the primitives are those of its transactions.
 use Rattle.std.proofs.Common.{◌≡◌, ℕ, zero, suc, ◌+◌, ◌-◌, ◌<◌, ◌≤◌, ◌==◌, not, List, [], ◌∷◌, ◌++◌, length, take, All, Option, None, Some, refl, ap, sym, subst, ◌∙◌, inl, inr, arith, append-nil, append_assoc}
 use Rattle.std.specs.Option.{option_map, option_or, option_to_list}
 use Rattle.std.specs.FinMap.{get}
@@ -25,11 +25,12 @@ use Rattle.kte_undo.specs.Steps.{steps_along, redo_of}
 use Rattle.kte_undo.specs.Groups.{Edits, last_of, gone_back, gone_forth}
 use Rattle.kte_undo.specs.declared.step.Step.{Step}
 use Rattle.kte_command.specs.declared.command.Command.{Command}
-use Rattle.kte_command.specs.declared.command.Command.TheVariants.{Edit, Begin, End, Undo, Redo, MakeRange, SetRange, DropRange, ShowRange, Lock, Unlock, Land}
-use Rattle.kte_core.specs.Editing.{Editing, EditReaction, text_of, judged, full, carried, not_open, change_refusal, group_refusal, changed, undone, redone, undo_steps, redo_steps, closing, noted_change, cut_reaction}
+use Rattle.kte_command.specs.declared.command.Command.TheVariants.{Edit, Begin, End, Undo, Redo, MakeRange, SetRange, DropRange, ShowRange, Lock, Unlock, Land, Check, Sync, Save}
+use Rattle.kte_core.specs.Editing.{Editing, EditReaction, text_of, judged, full, carried, not_open, still_open, change_refusal, group_refusal, changed, undone, redone, undo_steps, redo_steps, closing, noted_change, cut_reaction}
 use Rattle.kte_core.specs.Groups.{Leads, GroupsFit, IsFilled}
-use Rattle.kte_core.specs.React.{State, Reaction, react, react_by, react_command, edited, cut_at, CutsBetween, can_land_from}
-use Rattle.kte_core.specs.Replay.{beginning, replay, came_of, after_event, transactions, primitives_in, Legal}
+use Rattle.kte_core.specs.State.{State, Reaction, edited}
+use Rattle.kte_core.specs.React.{react, react_by, react_command, cut_at, CutsBetween, can_land_from}
+use Rattle.kte_core.specs.Replay.{beginning, replay, came_of, after_event, transactions, primitives_in, Answered}
 use Rattle.kte_core.specs.Requests.{HoldsChange, IsWhole}
 use Rattle.kte_core.specs.declared.event.Event.{Event}
 use Rattle.kte_core.specs.declared.reply.Reply.{Reply}
@@ -37,11 +38,11 @@ use Rattle.kte_core.specs.declared.reply.Reply.TheVariants as reply
 use Rattle.kte_core.specs.declared.reply.Refusal.{Refusal}
 use Rattle.kte_core.specs.declared.reply.Refusal.TheVariants as refusal
 use Rattle.kte_core.specs.declared.request.Request.{Request}
-use Rattle.kte_core.specs.declared.request.Request.TheVariants.{Cmd}
+use Rattle.kte_core.specs.declared.request.Request.TheVariants.{Cmd, Close, Take, Deliver, GiveBack, Outcome}
 use Rattle.kte_core.proofs.GroupLemmas.{FitInTurn-take, Leads-text, Leads-back, Leads-forth, Leads-none, fit-begun, fit-ended, fits_change, last_filled}
 use Rattle.kte_core.proofs.UndoLemmas.{Undoing, Redoing, undo_fits, redo_fits, fits_undone, fits_redone, length-undo_of, length-redo_of}
-use Rattle.kte_core.proofs.ReplayLemmas.{rises}
-use Rattle.kte_core.proofs.TransactionLemmas.{IsStill, Parts, parts-by, not_refused, no_end, open_unless, shut_unless, still-set, still-drop, still-show, still-unlock, still-land, uncut}
+use Rattle.kte_core.proofs.RisesLemmas.{rises}
+use Rattle.kte_core.proofs.TransactionLemmas.{IsStill, Parts, parts-by, IsCommand, quiet_unless, unless, within_open, no_cut, not_refused, no_end, open_unless, shut_unless, still-outside, still-set, still-drop, still-show, still-unlock, still-land, uncut}
 
 -- the insertions of a change are lines
 lines-further : (line column : ℕ) (lines : List (List ℕ)) → All IsLine lines → All HasLine (further line column lines)
@@ -244,6 +245,9 @@ steady-react state (Unlock revision) whole steady =
     steady-still state (react_command state (Unlock revision)) (still-unlock state revision (has_lock state.locks Editor revision)) steady
 steady-react state (Land revision span expand empty) whole steady =
     steady-still state (react_command state (Land revision span expand empty)) (still-land state revision span expand empty (can_land_from state revision)) steady
+steady-react state (Check rule) whole steady = steady
+steady-react state Sync whole steady = steady-still state (react_command state Sync) (still-outside state (still_open state.editing.edits.depth)) steady
+steady-react state Save whole steady = steady-still state (react_command state Save) (still-outside state (still_open state.editing.edits.depth)) steady
 
 -- .. also where memory runs out
 steady-cut : (state : State) (command : Command) (n : ℕ) → HoldsChange command → IsSteady state.editing → 0 < n
@@ -278,19 +282,40 @@ steady-cut state (Unlock revision) n whole steady some within =
     absurd (uncut state (react_command state (Unlock revision)) n (still-unlock state revision (has_lock state.locks Editor revision)).made within)
 steady-cut state (Land revision span expand empty) n whole steady some within =
     absurd (uncut state (react_command state (Land revision span expand empty)) n (still-land state revision span expand empty (can_land_from state revision)).made within)
+steady-cut state (Check rule) n whole steady some within = absurd (omega arith)
+steady-cut state Sync n whole steady some within =
+    absurd (uncut state (react_command state Sync) n (still-outside state (still_open state.editing.edits.depth)).made within)
+steady-cut state Save n whole steady some within =
+    absurd (uncut state (react_command state Save) n (still-outside state (still_open state.editing.edits.depth)).made within)
+
+steady-quiet : (state : State) (seat : ℕ) (request : Request) → (IsCommand request → ⊥) → IsSteady state.editing
+    → IsSteady (react state seat request).after.editing
+steady-quiet state seat request none steady = subst (λ (e : Editing). IsSteady e) (sym (quiet_unless state seat request none).editing) steady
 
 steady-by : (state : State) (seat : ℕ) (request : Request) (o : Option ℕ) → IsWhole request → IsSteady state.editing
     → CutsBetween (react state seat request).made o → IsSteady (react_by state seat request o).after.editing
-steady-by state seat (Cmd command) None whole steady cut = steady-react state command whole steady
-steady-by state seat (Cmd command) (Some n) whole steady cut = steady-cut state command n whole steady cut.0 cut.1
+steady-by state seat (Cmd command) None whole steady cut =
+    unless (λ (r : Reaction). IsSteady r.after.editing) state (react_command state command) steady (steady-react state command whole steady)
+steady-by state seat (Cmd command) (Some n) whole steady cut =
+    steady-cut state command n whole steady cut.0 (within_open state (react_command state command) n cut.1)
+steady-by state seat Close None whole steady cut = steady-quiet state seat Close (λ is. is) steady
+steady-by state seat Take None whole steady cut = steady-quiet state seat Take (λ is. is) steady
+steady-by state seat (Deliver job findings) None whole steady cut = steady-quiet state seat (Deliver job findings) (λ is. is) steady
+steady-by state seat (GiveBack job) None whole steady cut = steady-quiet state seat (GiveBack job) (λ is. is) steady
+steady-by state seat (Outcome call ok) None whole steady cut = steady
+steady-by state seat Close (Some n) whole steady cut = absurd (no_cut state seat Close n (λ is. is) cut.1)
+steady-by state seat Take (Some n) whole steady cut = absurd (no_cut state seat Take n (λ is. is) cut.1)
+steady-by state seat (Deliver job findings) (Some n) whole steady cut = absurd (no_cut state seat (Deliver job findings) n (λ is. is) cut.1)
+steady-by state seat (GiveBack job) (Some n) whole steady cut = absurd (no_cut state seat (GiveBack job) n (λ is. is) cut.1)
+steady-by state seat (Outcome call ok) (Some n) whole steady cut = absurd (no_cut state seat (Outcome call ok) n (λ is. is) cut.1)
 
 pub steady-replay : (state : State) (events : List Event) → All (λ event. IsWhole event.request) events → IsSteady state.editing
-    → Legal state events → IsSteady (replay state events).editing
-steady-replay state [] whole steady legal = steady
-steady-replay state (event ∷ events) whole steady legal =
+    → Answered state events → IsSteady (replay state events).editing
+steady-replay state [] whole steady answered = steady
+steady-replay state (event ∷ events) whole steady answered =
     let P : Event → Type 0 = λ event. IsWhole event.request in
     steady-replay (after_event state event) events (All-tail P event events whole)
-    (steady-by state event.seat event.request (cut_at event.reply) (All-head P event events whole) steady legal.0.cut) legal.1
+    (steady-by state event.seat event.request (cut_at event.reply) (All-head P event events whole) steady answered.0.cut) answered.1
 
 -- at first nothing is made
 pub steady-beginning : (loaded : Loaded) (limit : ℕ) → IsText loaded.text → IsSteady (beginning loaded limit).editing
@@ -320,21 +345,21 @@ parted-on before after made done finished parts is =
     ∙ ap (λ (t : List Primitive). done ++ t) parts.parts ∙ sym (append_assoc done more (redo_of after.edits.current))
 
 pub parted-replay : (state : State) (events : List Event) (done : List Primitive) → All (λ event. IsWhole event.request) events
-    → IsSteady state.editing → Legal state events → state.editing.trail ≡ done ++ redo_of state.editing.edits.current
+    → IsSteady state.editing → Answered state events → state.editing.trail ≡ done ++ redo_of state.editing.edits.current
     → (replay state events).editing.trail
     ≡ (done ++ primitives_in (transactions state events)) ++ redo_of (replay state events).editing.edits.current
-parted-replay state [] done whole steady legal is =
+parted-replay state [] done whole steady answered is =
     is ∙ ap (λ (t : List Primitive). t ++ redo_of state.editing.edits.current) (sym (append-nil done))
-parted-replay state (event ∷ events) done whole steady legal is =
+parted-replay state (event ∷ events) done whole steady answered is =
     let P : Event → Type 0 = λ event. IsWhole event.request in
     let came = came_of state event in
     let first = option_to_list came.finished in
-    let next = steady-by state event.seat event.request (cut_at event.reply) (All-head P event events whole) steady legal.0.cut in
+    let next = steady-by state event.seat event.request (cut_at event.reply) (All-head P event events whole) steady answered.0.cut in
     let same = (rises state event.seat event.request (cut_at event.reply)).loaded in
     let turn : FitInTurn came.after.editing.trail state.editing.loaded.text =
     subst (λ (l : Loaded). FitInTurn came.after.editing.trail l.text) same next.turn in
-    let parts = parts-by state event.seat event.request (cut_at event.reply) steady.fit.shut legal.0.cut turn in
-    let rest = parted-replay (after_event state event) events (done ++ primitives_in first) (All-tail P event events whole) next legal.1
+    let parts = parts-by state event.seat event.request (cut_at event.reply) steady.fit.shut answered.0.cut turn in
+    let rest = parted-replay (after_event state event) events (done ++ primitives_in first) (All-tail P event events whole) next answered.1
     (parted-on state.editing came.after.editing came.made done came.finished parts is) in
     let later = transactions (after_event state event) events in
     let joined : (done ++ primitives_in first) ++ primitives_in later ≡ done ++ primitives_in (first ++ later) =
@@ -353,18 +378,22 @@ pub undone_text : (state : State) (seat : ℕ) (from : List (List ℕ)) (steps r
     → Leads (last_of state.editing.edits.undo) from (text_of state.editing)
     → (react state seat (Cmd Undo)).reply ≡ reply.Edited steps revision depth
     → text_of (react state seat (Cmd Undo)).after.editing ≡ from
-undone_text state seat from steps revision depth leads is =
+undone_text state seat from steps revision depth leads =
     let editing = state.editing in
     let ps = undo_steps editing in
-    text_made (group_refusal editing editing.edits.undo ps) editing ps (gone_back (length ps) editing.edits) steps revision depth is
-    ∙ (Leads-back (last_of editing.edits.undo) from (text_of editing) leads).text
+    unless (λ (r : Reaction). r.reply ≡ reply.Edited steps revision depth → text_of r.after.editing ≡ from) state (react_command state Undo)
+    (λ is. absurd (cc))
+    (λ is. text_made (group_refusal editing editing.edits.undo ps) editing ps (gone_back (length ps) editing.edits) steps revision depth is
+    ∙ (Leads-back (last_of editing.edits.undo) from (text_of editing) leads).text)
 
 pub redone_text : (state : State) (seat : ℕ) (to : List (List ℕ)) (steps revision depth : ℕ)
     → Leads (last_of state.editing.edits.redo) (text_of state.editing) to
     → (react state seat (Cmd Redo)).reply ≡ reply.Edited steps revision depth
     → text_of (react state seat (Cmd Redo)).after.editing ≡ to
-redone_text state seat to steps revision depth leads is =
+redone_text state seat to steps revision depth leads =
     let editing = state.editing in
     let ps = redo_steps editing in
-    text_made (group_refusal editing editing.edits.redo ps) editing ps (gone_forth (length ps) editing.edits) steps revision depth is
-    ∙ (Leads-forth (last_of editing.edits.redo) (text_of editing) to leads).text
+    unless (λ (r : Reaction). r.reply ≡ reply.Edited steps revision depth → text_of r.after.editing ≡ to) state (react_command state Redo)
+    (λ is. absurd (cc))
+    (λ is. text_made (group_refusal editing editing.edits.redo ps) editing ps (gone_forth (length ps) editing.edits) steps revision depth is
+    ∙ (Leads-forth (last_of editing.edits.redo) (text_of editing) to leads).text)

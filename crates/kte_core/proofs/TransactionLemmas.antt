@@ -1,5 +1,5 @@
 -- The primitives made are those of the finished transactions and of the open one.
-use Rattle.std.proofs.Common.{◌≡◌, ℕ, ◌+◌, ◌-◌, ◌<◌, ◌≤◌, ◌==◌, Bool, true, false, List, [], ◌∷◌, ◌++◌, length, take, Option, None, Some, refl, ap, sym, ◌∙◌, inl, inr, arith, append-nil}
+use Rattle.std.proofs.Common.{◌≡◌, ℕ, ◌+◌, ◌-◌, ◌<◌, ◌≤◌, ◌==◌, Bool, true, false, List, [], ◌∷◌, ◌++◌, length, take, Option, None, Some, refl, ap, sym, ◌∙◌, if◌then◌else◌, inl, inr, arith, append-nil}
 use Rattle.std.specs.Option.{option_to_list}
 use Rattle.std.specs.FinMap.{get}
 use Rattle.std.proofs.lemmas.Bool.{cases_Bool, eq-eqb, eqb-true, eqb-false, ne_eqb}
@@ -17,50 +17,113 @@ use Rattle.kte_undo.specs.Groups.{Edits, begun, closed, ended, gone_back, gone_f
 use Rattle.kte_undo.specs.declared.step.Step.{Step}
 use Rattle.kte_undo.proofs.InverseLemmas.{redoes}
 use Rattle.kte_command.specs.declared.command.Command.{Command}
-use Rattle.kte_command.specs.declared.command.Command.TheVariants.{Edit, Begin, End, Undo, Redo, MakeRange, SetRange, DropRange, ShowRange, Lock, Unlock, Land}
-use Rattle.kte_core.specs.Editing.{Editing, EditReaction, text_of, judged, not_open, if_made, finished_at, noted_all, noted_change, carried, changed, undone, redone, undo_steps, redo_steps, change_refusal, group_refusal, closing, cut_reaction}
-use Rattle.kte_core.specs.React.{State, Range, Reaction, react, react_by, react_command, edited, cut_at, CutsBetween, set_range, drop_range, show_range, unlock, land, can_land_from}
+use Rattle.kte_command.specs.declared.command.Command.TheVariants.{Edit, Begin, End, Undo, Redo, MakeRange, SetRange, DropRange, ShowRange, Lock, Unlock, Land, Check, Sync, Save}
+use Rattle.kte_core.specs.Editing.{Editing, EditReaction, text_of, judged, not_open, still_open, if_made, finished_at, noted_all, noted_change, carried, changed, undone, redone, undo_steps, redo_steps, change_refusal, group_refusal, closing, cut_reaction}
+use Rattle.kte_core.specs.State.{State, Range, Reaction, edited, refused}
+use Rattle.kte_core.specs.React.{react, react_by, react_command, cut_at, CutsBetween, set_range, drop_range, show_range, unlock, land, can_land_from, ask_outside, unless_closed, close}
+use Rattle.kte_core.specs.Jobs.{take_job, deliver, give_back, taken_at}
+use Rattle.kte_jobs.specs.Jobs.{least_waiting}
 use Rattle.kte_core.specs.Replay.{primitives_in}
 use Rattle.kte_core.specs.declared.reply.Reply.{Reply}
 use Rattle.kte_core.specs.declared.reply.Reply.TheVariants as reply
 use Rattle.kte_core.specs.declared.reply.Refusal.{Refusal}
+use Rattle.kte_core.specs.declared.reply.Refusal.TheVariants.{Closed}
 use Rattle.kte_core.specs.declared.request.Request.{Request}
-use Rattle.kte_core.specs.declared.request.Request.TheVariants.{Cmd}
+use Rattle.kte_core.specs.declared.request.Request.TheVariants.{Cmd, Close, Take, Deliver, GiveBack, Outcome}
 
--- A reaction that edits nothing: the number of the next range rises by one at most
+-- A reaction that edits nothing
+pub record IsQuiet (state : State) (reaction : Reaction) : Type 0 where
+  pub editing : reaction.after.editing ≡ state.editing
+  pub made : reaction.made ≡ []
+  pub finished : reaction.finished ≡ None
+
+-- .. nor changes jobs: the number of the next range rises by one at most
 pub record IsStill (state : State) (reaction : Reaction) : Type 0 where
   pub editing : reaction.after.editing ≡ state.editing
   pub made : reaction.made ≡ []
   pub finished : reaction.finished ≡ None
   pub next_id : reaction.after.next_id ≤ state.next_id + 1
   pub uncut : cut_at reaction.reply ≡ None
+  pub jobs : reaction.after.jobs ≡ state.jobs
+  pub closed : reaction.after.closed ≡ state.closed
+
+quiet : (state : State) (reaction : Reaction) → IsStill state reaction → IsQuiet state reaction
+quiet state reaction still = record { editing = still.editing; made = still.made; finished = still.finished }
 
 pub still-make : (state : State) (span : Ends) (expand : Expand) (empty : Empty) → IsStill state (react_command state (MakeRange span expand empty))
-still-make state span expand empty = record { editing = refl; made = refl; finished = refl; next_id = omega arith; uncut = refl }
+still-make state span expand empty = record { editing = refl; made = refl; finished = refl; next_id = omega arith; uncut = refl; jobs = refl; closed = refl }
 
 pub still-lock : (state : State) → IsStill state (react_command state Lock)
-still-lock state = record { editing = refl; made = refl; finished = refl; next_id = omega arith; uncut = refl }
+still-lock state = record { editing = refl; made = refl; finished = refl; next_id = omega arith; uncut = refl; jobs = refl; closed = refl }
 
 pub still-set : (state : State) (id : ℕ) (span : Ends) (found : Option Range) → IsStill state (set_range state id span found)
-still-set state id span None = record { editing = refl; made = refl; finished = refl; next_id = omega arith; uncut = refl }
-still-set state id span (Some range) = record { editing = refl; made = refl; finished = refl; next_id = omega arith; uncut = refl }
+still-set state id span None = record { editing = refl; made = refl; finished = refl; next_id = omega arith; uncut = refl; jobs = refl; closed = refl }
+still-set state id span (Some range) = record { editing = refl; made = refl; finished = refl; next_id = omega arith; uncut = refl; jobs = refl; closed = refl }
 
 pub still-drop : (state : State) (id : ℕ) (found : Option Range) → IsStill state (drop_range state id found)
-still-drop state id None = record { editing = refl; made = refl; finished = refl; next_id = omega arith; uncut = refl }
-still-drop state id (Some range) = record { editing = refl; made = refl; finished = refl; next_id = omega arith; uncut = refl }
+still-drop state id None = record { editing = refl; made = refl; finished = refl; next_id = omega arith; uncut = refl; jobs = refl; closed = refl }
+still-drop state id (Some range) = record { editing = refl; made = refl; finished = refl; next_id = omega arith; uncut = refl; jobs = refl; closed = refl }
 
 pub still-show : (state : State) (id : ℕ) (found : Option Range) → IsStill state (show_range state id found)
-still-show state id None = record { editing = refl; made = refl; finished = refl; next_id = omega arith; uncut = refl }
-still-show state id (Some range) = record { editing = refl; made = refl; finished = refl; next_id = omega arith; uncut = refl }
+still-show state id None = record { editing = refl; made = refl; finished = refl; next_id = omega arith; uncut = refl; jobs = refl; closed = refl }
+still-show state id (Some range) = record { editing = refl; made = refl; finished = refl; next_id = omega arith; uncut = refl; jobs = refl; closed = refl }
 
 pub still-unlock : (state : State) (revision : ℕ) (owned : Bool) → IsStill state (unlock state revision owned)
-still-unlock state revision true = record { editing = refl; made = refl; finished = refl; next_id = omega arith; uncut = refl }
-still-unlock state revision false = record { editing = refl; made = refl; finished = refl; next_id = omega arith; uncut = refl }
+still-unlock state revision true = record { editing = refl; made = refl; finished = refl; next_id = omega arith; uncut = refl; jobs = refl; closed = refl }
+still-unlock state revision false = record { editing = refl; made = refl; finished = refl; next_id = omega arith; uncut = refl; jobs = refl; closed = refl }
 
 pub still-land : (state : State) (revision : ℕ) (span : Ends) (expand : Expand) (empty : Empty) (may : Bool)
     → IsStill state (land state revision span expand empty may)
-still-land state revision span expand empty true = record { editing = refl; made = refl; finished = refl; next_id = omega arith; uncut = refl }
-still-land state revision span expand empty false = record { editing = refl; made = refl; finished = refl; next_id = omega arith; uncut = refl }
+still-land state revision span expand empty true = record { editing = refl; made = refl; finished = refl; next_id = omega arith; uncut = refl; jobs = refl; closed = refl }
+still-land state revision span expand empty false = record { editing = refl; made = refl; finished = refl; next_id = omega arith; uncut = refl; jobs = refl; closed = refl }
+
+pub still-outside : (state : State) (cause : Option Refusal) → IsStill state (ask_outside state cause)
+still-outside state None = record { editing = refl; made = refl; finished = refl; next_id = omega arith; uncut = refl; jobs = refl; closed = refl }
+still-outside state (Some refusal) = record { editing = refl; made = refl; finished = refl; next_id = omega arith; uncut = refl; jobs = refl; closed = refl }
+
+-- what holds of a refusal for a closed session, and of a reaction where it is not closed
+if_then : (P : Reaction → Type 0) (b : Bool) (x y : Reaction) → P x → (b ≡ false → P y) → P (if b then x else y)
+if_then P true x y first last = first
+if_then P false x y first last = last refl
+
+pub unless_then : (P : Reaction → Type 0) (state : State) (reaction : Reaction) → P (refused state Closed)
+    → (state.closed ≡ false → P reaction) → P (unless_closed state reaction)
+unless_then P state reaction closed still_open = if_then P state.closed (refused state Closed) reaction closed still_open
+
+pub unless : (P : Reaction → Type 0) (state : State) (reaction : Reaction) → P (refused state Closed) → P reaction
+    → P (unless_closed state reaction)
+unless P state reaction closed still_open = unless_then P state reaction closed (λ not_closed. still_open)
+
+-- the requests that are no commands
+quiet-take : (state : State) (seat : ℕ) (waiting : Option ℕ) → IsQuiet state (take_job state seat waiting)
+quiet-take state seat None = record { editing = refl; made = refl; finished = refl }
+quiet-take state seat (Some job) = record { editing = refl; made = refl; finished = refl }
+
+quiet-deliver : (state : State) (job : ℕ) (findings : List Ends) (taken : Option ℕ) → IsQuiet state (deliver state job findings taken)
+quiet-deliver state job findings None = record { editing = refl; made = refl; finished = refl }
+quiet-deliver state job findings (Some revision) = record { editing = refl; made = refl; finished = refl }
+
+quiet-give_back : (state : State) (job : ℕ) (taken : Option ℕ) → IsQuiet state (give_back state job taken)
+quiet-give_back state job None = record { editing = refl; made = refl; finished = refl }
+quiet-give_back state job (Some revision) = record { editing = refl; made = refl; finished = refl }
+
+quiet-close : (state : State) → IsQuiet state (unless_closed state (close state))
+quiet-close state =
+    unless (IsQuiet state) state (close state) (record { editing = refl; made = refl; finished = refl })
+    (record { editing = refl; made = refl; finished = refl })
+
+-- a request is a command, or edits nothing
+abbrev pub IsCommand : Request → Type 0
+IsCommand (Cmd command) = Unit {0}
+IsCommand _ = ⊥
+
+pub quiet_unless : (state : State) (seat : ℕ) (request : Request) → (IsCommand request → ⊥) → IsQuiet state (react state seat request)
+quiet_unless state seat (Cmd command) none = absurd (none tt)
+quiet_unless state seat Close none = quiet-close state
+quiet_unless state seat Take none = quiet-take state seat (least_waiting state.jobs)
+quiet_unless state seat (Deliver job findings) none = quiet-deliver state job findings (taken_at state.jobs seat job)
+quiet_unless state seat (GiveBack job) none = quiet-give_back state job (taken_at state.jobs seat job)
+quiet_unless state seat (Outcome call ok) none = record { editing = refl; made = refl; finished = refl }
 
 -- the depth after each step of the groups
 depth-closed : (steps : List Step) (edits : Edits) → (closed steps edits).depth ≡ edits.depth
@@ -200,9 +263,12 @@ not_refused (Some cause) editing made n within = absurd (omega arith)
 abbrev pub PartsOf : State → Reaction → Type 0
 PartsOf state reaction = Parts state.editing reaction.made reaction.finished reaction.after.editing
 
+parts-quiet : (state : State) (reaction : Reaction) → IsQuiet state reaction → PartsOf state reaction
+parts-quiet state reaction quiet =
+    rw (quiet.made, quiet.finished, quiet.editing) (parts-none state.editing)
+
 parts-still : (state : State) (reaction : Reaction) → IsStill state reaction → PartsOf state reaction
-parts-still state reaction still =
-    rw (still.made, still.finished, still.editing) (parts-none state.editing)
+parts-still state reaction still = parts-quiet state reaction (quiet state reaction still)
 
 -- the primitives are made in a text that they fit
 abbrev pub FitsAfter : State → Reaction → Type 0
@@ -238,6 +304,9 @@ parts-react state Lock shut fit = parts-none state.editing
 parts-react state (Unlock revision) shut fit = parts-still state _ (still-unlock state revision (has_lock state.locks Editor revision))
 parts-react state (Land revision span expand empty) shut fit =
     parts-still state _ (still-land state revision span expand empty (can_land_from state revision))
+parts-react state (Check rule) shut fit = parts-none state.editing
+parts-react state Sync shut fit = parts-still state _ (still-outside state (still_open state.editing.edits.depth))
+parts-react state Save shut fit = parts-still state _ (still-outside state (still_open state.editing.edits.depth))
 
 -- a command that makes no primitive is not cut
 pub uncut : (state : State) (reaction : Reaction) (n : ℕ) → reaction.made ≡ [] → n < length reaction.made → ⊥
@@ -278,8 +347,36 @@ parts-cut state (Unlock revision) n shut within fit =
     absurd (uncut state (react_command state (Unlock revision)) n (still-unlock state revision (has_lock state.locks Editor revision)).made within)
 parts-cut state (Land revision span expand empty) n shut within fit =
     absurd (uncut state (react_command state (Land revision span expand empty)) n (still-land state revision span expand empty (can_land_from state revision)).made within)
+parts-cut state (Check rule) n shut within fit = absurd (omega arith)
+parts-cut state Sync n shut within fit = absurd (uncut state (react_command state Sync) n (still-outside state (still_open state.editing.edits.depth)).made within)
+parts-cut state Save n shut within fit = absurd (uncut state (react_command state Save) n (still-outside state (still_open state.editing.edits.depth)).made within)
+
+-- what is cut in a session that may be closed is not refused
+pub within_open : (state : State) (reaction : Reaction) (n : ℕ) → n < length (unless_closed state reaction).made → n < length reaction.made
+within_open state reaction n =
+    unless (λ (r : Reaction). n < length r.made → n < length reaction.made) state reaction (λ within. absurd (omega arith)) (λ within. within)
+
+parts-open : (state : State) (command : Command) → (state.editing.edits.depth ≡ 0 → state.editing.edits.current ≡ [])
+    → FitsAfter state (unless_closed state (react_command state command)) → PartsOf state (unless_closed state (react_command state command))
+parts-open state command shut =
+    unless (λ (r : Reaction). FitsAfter state r → PartsOf state r) state (react_command state command)
+    (λ fit. parts-none state.editing) (λ fit. parts-react state command shut fit)
+
+-- a request that is no command is not cut
+pub no_cut : (state : State) (seat : ℕ) (request : Request) (n : ℕ) → (IsCommand request → ⊥) → n < length (react state seat request).made → ⊥
+no_cut state seat request n none within = uncut state (react state seat request) n (quiet_unless state seat request none).made within
 
 pub parts-by : (state : State) (seat : ℕ) (request : Request) (o : Option ℕ) → (state.editing.edits.depth ≡ 0 → state.editing.edits.current ≡ [])
     → CutsBetween (react state seat request).made o → FitsAfter state (react_by state seat request o) → PartsOf state (react_by state seat request o)
-parts-by state seat (Cmd command) None shut cut fit = parts-react state command shut fit
-parts-by state seat (Cmd command) (Some n) shut cut fit = parts-cut state command n shut cut.1 fit
+parts-by state seat (Cmd command) None shut cut fit = parts-open state command shut fit
+parts-by state seat (Cmd command) (Some n) shut cut fit = parts-cut state command n shut (within_open state (react_command state command) n cut.1) fit
+parts-by state seat Close None shut cut fit = parts-quiet state _ (quiet_unless state seat Close (λ is. is))
+parts-by state seat Take None shut cut fit = parts-quiet state _ (quiet_unless state seat Take (λ is. is))
+parts-by state seat (Deliver job findings) None shut cut fit = parts-quiet state _ (quiet_unless state seat (Deliver job findings) (λ is. is))
+parts-by state seat (GiveBack job) None shut cut fit = parts-quiet state _ (quiet_unless state seat (GiveBack job) (λ is. is))
+parts-by state seat (Outcome call ok) None shut cut fit = parts-none state.editing
+parts-by state seat Close (Some n) shut cut fit = absurd (no_cut state seat Close n (λ is. is) cut.1)
+parts-by state seat Take (Some n) shut cut fit = absurd (no_cut state seat Take n (λ is. is) cut.1)
+parts-by state seat (Deliver job findings) (Some n) shut cut fit = absurd (no_cut state seat (Deliver job findings) n (λ is. is) cut.1)
+parts-by state seat (GiveBack job) (Some n) shut cut fit = absurd (no_cut state seat (GiveBack job) n (λ is. is) cut.1)
+parts-by state seat (Outcome call ok) (Some n) shut cut fit = absurd (no_cut state seat (Outcome call ok) n (λ is. is) cut.1)

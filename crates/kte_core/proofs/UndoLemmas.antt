@@ -13,7 +13,7 @@ use Rattle.kte_undo.specs.declared.step.Step.{Step as UndoStep}
 use Rattle.kte_undo.specs.declared.groups.UndoFault.{UndoFault}
 use Rattle.kte_core.specs.Editing.{group_refusal, undo_steps, redo_steps}
 use Rattle.kte_core.specs.Groups.{GroupsFit}
-use Rattle.kte_core.specs.React.{State}
+use Rattle.kte_core.specs.State.{State}
 use Rattle.kte_core.specs.Shown.{IsOf, IsRefused}
 use Rattle.kte_core.specs.declared.event.Step.{Step}
 use Rattle.kte_core.specs.declared.reply.Refusal.TheVariants as refusal

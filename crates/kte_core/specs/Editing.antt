@@ -3,6 +3,7 @@
 -- refusals and that a group may be cut in two are this project's own.
 use Rattle.std.specs.Prelude.{ℕ, ◌+◌, ◌==◌, List, [], ◌∷◌, ◌++◌, length, take, nat_lt, Option, Some, None, if◌then◌else◌}
 use Rattle.std.specs.Option.{option_map, option_or}
+use Rattle.kte_text.specs.Saving.{bytes_of}
 use Rattle.kte_text.specs.Primitives.{after_all}
 use Rattle.kte_text.specs.declared.primitive.Primitive.{Primitive}
 use Rattle.kte_text.specs.declared.loading.Loaded.{Loaded}
@@ -38,6 +39,10 @@ unchanged loaded limit = record {
 -- the present text
 abbrev pub text_of : Editing → List (List ℕ)
 text_of editing = after_all editing.trail editing.loaded.text
+
+-- the bytes that saving writes now
+abbrev pub saved_form : Editing → List ℕ
+saved_form editing = bytes_of (text_of editing) editing.loaded.eol editing.loaded.bom
 
 -- the present revision: how many primitives have been made
 abbrev pub revision_of : Editing → ℕ

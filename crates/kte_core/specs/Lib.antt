@@ -1,7 +1,12 @@
 pub mod Editing
 pub mod Groups
+pub mod State
+pub mod Jobs
 pub mod React
 pub mod Requests
+pub mod Kept
+pub mod Events
 pub mod Replay
+pub mod JobsInWords
 pub mod Shown
 pub mod Inside

@@ -1,87 +1,28 @@
 -- What a request makes of the present state, and what is replied. Source: KTextEditor's Document
 -- and MovingRange; the order of refusals, and that numbers of ranges rise from 1, are this
 -- project's own.
-use Rattle.std.specs.Prelude.{ℕ, ◌+◌, ◌<◌, Bool, true, false, ◌==◌, ◌||◌, List, [], ◌∷◌, ◌++◌, length, Option, Some, None}
-use Rattle.std.specs.Ordering.{nat_cmp}
-use Rattle.std.specs.FinMap.{FinMap, get, insert, remove}
+use Rattle.std.specs.Prelude.{ℕ, ◌+◌, ◌<◌, Bool, true, false, ◌==◌, ◌||◌, List, [], ◌∷◌, ◌++◌, length, Option, Some, None, if◌then◌else◌}
+use Rattle.std.specs.FinMap.{get, insert, remove}
 use Rattle.kte_text.specs.declared.primitive.Primitive.{Primitive}
 use Rattle.kte_place.specs.Ends.{Ends}
 use Rattle.kte_place.specs.declared.span.Expand.{Expand}
 use Rattle.kte_place.specs.declared.span.Empty.{Empty}
-use Rattle.kte_ranges.specs.declared.info.RangeKind.{RangeKind}
 use Rattle.kte_ranges.specs.declared.info.RangeKind.TheVariants.{User}
-use Rattle.kte_ranges.specs.declared.info.Origin.{Origin}
-use Rattle.kte_history.specs.declared.lock.Lock as lock_type
 use Rattle.kte_history.specs.declared.lock.Owner.TheVariants.{Editor}
 use Rattle.kte_history.specs.Locks.{oldest, is_locked, has_lock, unlocked}
 use Rattle.kte_doc.specs.Trail.{stand}
+use Rattle.kte_jobs.specs.Jobs.{least_waiting}
 use Rattle.kte_command.specs.declared.command.Command.{Command}
-use Rattle.kte_command.specs.declared.command.Command.TheVariants.{Edit, Begin, End, Undo, Redo, MakeRange, SetRange, DropRange, ShowRange, Lock, Unlock, Land}
-use Rattle.kte_core.specs.Editing.{Editing, EditReaction, revision_of, change_reaction, begin_reaction, end_reaction, undo_reaction, redo_reaction, cut_reaction}
+use Rattle.kte_command.specs.declared.command.Command.TheVariants.{Edit, Begin, End, Undo, Redo, MakeRange, SetRange, DropRange, ShowRange, Lock, Unlock, Land, Check, Sync, Save}
+use Rattle.kte_core.specs.Editing.{revision_of, still_open, change_reaction, begin_reaction, end_reaction, undo_reaction, redo_reaction, cut_reaction, carried}
+use Rattle.kte_core.specs.State.{Range, stands, made_now, set_now, State, Reaction, replied, refused, edited}
+use Rattle.kte_core.specs.Jobs.{post, take_job, deliver, give_back, taken_at}
 use Rattle.kte_core.specs.declared.request.Request.{Request}
-use Rattle.kte_core.specs.declared.request.Request.TheVariants.{Cmd}
+use Rattle.kte_core.specs.declared.request.Request.TheVariants.{Cmd, Close, Take, Deliver, GiveBack, Outcome}
 use Rattle.kte_core.specs.declared.reply.Reply.{Reply}
 use Rattle.kte_core.specs.declared.reply.Reply.TheVariants as reply
 use Rattle.kte_core.specs.declared.reply.Refusal.{Refusal}
-use Rattle.kte_core.specs.declared.reply.Refusal.TheVariants.{NoRange, NotLocked, NotOwned}
-
--- A range: what it does at a change, whose it is, and where it was made or last set
-pub record Range : Type 0 where
-  pub expand : Expand
-  pub empty : Empty
-  pub kind : RangeKind
-  pub origin : Origin
-
--- where a range stands now: the trail since its origin determines it
-abbrev pub stands : Editing → Range → Option Ends
-stands editing range = stand editing.loaded.text editing.trail range.expand range.empty range.origin
-
--- a range that is made now
-abbrev pub made_now : Editing → Ends → Expand → Empty → RangeKind → Range
-made_now editing span expand empty kind = record {
-  expand = expand;
-  empty = empty;
-  kind = kind;
-  origin = record { revision = revision_of editing; span = span };
-}
-
--- a range that is set now: only its origin changes
-abbrev pub set_now : Editing → Ends → Range → Range
-set_now editing span range = made_now editing span range.expand range.empty range.kind
-
--- What a core holds: what is edited, the ranges by their numbers, the number that the next range
--- gets, and the locks
-pub record State : Type 0 where
-  pub editing : Editing
-  pub ranges : FinMap nat_cmp Range
-  pub next_id : ℕ
-  -- the locks on revisions, in the order in which they were taken
-  pub locks : List lock_type.Lock
-
--- What comes of a request: the reply, the primitives that were made, the transaction that it
--- finishes, if it finishes one that has primitives, and the state after it
-pub record Reaction : Type 0 where
-  pub reply : Reply
-  pub made : List Primitive
-  pub finished : Option (List Primitive)
-  pub after : State
-
--- a reply that changes nothing
-abbrev pub replied : State → Reply → Reaction
-replied state reply = record { reply = reply; made = []; finished = None; after = state }
-
--- a refusal changes nothing
-abbrev pub refused : State → Refusal → Reaction
-refused state refusal = replied state (reply.Refused refusal)
-
--- an edit leaves the ranges as they are: where they stand follows from the trail
-abbrev pub edited : State → EditReaction → Reaction
-edited state edit = record {
-  reply = edit.reply;
-  made = edit.made;
-  finished = edit.finished;
-  after = record state { editing = edit.after };
-}
+use Rattle.kte_core.specs.declared.reply.Refusal.TheVariants.{NoRange, NotLocked, NotOwned, Closed}
 
 -- the range is put under the number, and the reply says where it stands
 abbrev pub placed : State → ℕ → Range → Reaction
@@ -118,7 +59,9 @@ lock state = record {
   reply = reply.Locked (revision_of state.editing);
   made = [];
   finished = None;
-  after = record state { locks = state.locks ++ record { owner = Editor; revision = revision_of state.editing } ∷ [] };
+  after = record state {
+    locks = state.locks ++ record { owner = Editor; revision = revision_of state.editing } ∷ [];
+  };
 }
 
 -- removing one of the editor's locks, if it has one there
@@ -133,14 +76,21 @@ unlock state revision false = refused state (NotOwned revision)
 
 -- the revision is the present one, or is locked by anybody
 abbrev pub can_land_from : State → ℕ → Bool
-can_land_from state revision = revision == revision_of state.editing || is_locked state.locks revision
+can_land_from state revision =
+    revision == revision_of state.editing || is_locked state.locks revision
 
 -- where a span lands: where a range stands that was made of it at the revision
 abbrev pub land : State → ℕ → Ends → Expand → Empty → Bool → Reaction
 land state revision span expand empty true =
     replied state (reply.Landed (stand state.editing.loaded.text state.editing.trail expand empty
     (record { revision = revision; span = span })))
-land state revision span expand empty false = refused state (NotLocked revision (oldest state.locks))
+land state revision span expand empty false =
+    refused state (NotLocked revision (oldest state.locks))
+
+-- what is to be done outside of the core is asked for, if no transaction is open
+abbrev pub ask_outside : State → Option Refusal → Reaction
+ask_outside state None = replied state reply.Asked
+ask_outside state (Some refusal) = refused state refusal
 
 -- what comes of a command: only changes, transactions, undo and redo change what is edited
 abbrev pub react_command : State → Command → Reaction
@@ -160,14 +110,38 @@ react_command state (Unlock revision) =
     unlock state revision (has_lock state.locks Editor revision)
 react_command state (Land revision span expand empty) =
     land state revision span expand empty (can_land_from state revision)
+react_command state (Check rule) = post state rule
+react_command state Sync = ask_outside state (still_open state.editing.edits.depth)
+react_command state Save = ask_outside state (still_open state.editing.edits.depth)
+
+-- a closed session refuses this, whatever else would come of it
+abbrev pub unless_closed : State → Reaction → Reaction
+unless_closed state reaction = if state.closed then refused state Closed else reaction
+
+-- the session is closed, at whatever depth
+abbrev pub close : State → Reaction
+close state = record {
+  reply = reply.Closed;
+  made = [];
+  finished = None;
+  after = record state { closed = true };
+}
 
 -- what comes of a seat's request
 abbrev pub react : State → ℕ → Request → Reaction
-react state seat (Cmd command) = react_command state command
+react state seat (Cmd command) = unless_closed state (react_command state command)
+react state seat Close = unless_closed state (close state)
+react state seat Take = take_job state seat (least_waiting state.jobs)
+react state seat (Deliver job findings) =
+    deliver state job findings (taken_at state.jobs seat job)
+react state seat (GiveBack job) = give_back state job (taken_at state.jobs seat job)
+react state seat (Outcome call ok) = replied state reply.Noted
 
--- what comes of a seat's request where memory runs out after so many primitives
+-- what comes of a seat's request where memory runs out after so many primitives; no request but a
+-- command makes any
 abbrev pub react_cut : State → ℕ → Request → ℕ → Reaction
 react_cut state seat (Cmd command) n = edited state (cut_reaction state.editing command n)
+react_cut state seat _ n = edited state (carried reply.Cut state.editing [] state.editing.edits)
 
 -- what comes of a seat's request: after so many primitives memory may have run out
 abbrev pub react_by : State → ℕ → Request → Option ℕ → Reaction

@@ -1,13 +1,21 @@
 -- What a document shows of a state.
-use Rattle.std.specs.Prelude.{◌≡◌, ℕ, ◌+◌, List, [], ◌++◌, length, Option, None, Some}
+use Rattle.std.specs.Prelude.{◌≡◌, ℕ, ◌+◌, false, List, [], ◌++◌, length, Option, None, Some}
 use Rattle.std.specs.Option.{option_map}
 use Rattle.std.specs.FinMap.{get}
 use Rattle.kte_text.specs.Primitives.{after_all}
 use Rattle.kte_text.specs.declared.primitive.Primitive.{Primitive}
 use Rattle.kte_undo.specs.Groups.{Edits}
-use Rattle.kte_doc.specs.Documents.{Document, CameBy}
+use Rattle.kte_place.specs.Ends.{Ends}
+use Rattle.kte_place.specs.declared.span.Empty.TheVariants.{Void}
+use Rattle.kte_ranges.specs.declared.info.RangeKind.TheVariants as kind
+use Rattle.kte_doc.specs.Documents.{Document, CameBy, KeepsTrail, made_of}
 use Rattle.kte_doc.specs.Standings.{Standing}
-use Rattle.kte_core.specs.React.{Range, State, Reaction, react, react_by, cut_at, CutsBetween}
+use Rattle.kte_command.specs.declared.command.Command.{Command}
+use Rattle.kte_jobs.specs.Job.{Job}
+use Rattle.kte_core.specs.Editing.{cut_reaction}
+use Rattle.kte_core.specs.State.{Range, State, Reaction, edited}
+use Rattle.kte_core.specs.React.{react_command, react, react_by, cut_at, CutsBetween}
+use Rattle.kte_core.specs.declared.present.Present.{Present}
 use Rattle.kte_core.specs.declared.request.Request.{Request}
 use Rattle.kte_core.specs.declared.event.Step.{Step}
 use Rattle.kte_core.specs.declared.reply.Reply.{Reply}
@@ -25,8 +33,8 @@ range_of standing = record {
 }
 
 -- The document is that of the state: it came from the loaded text by the trail, so its text, its
--- revision and where its ranges stand are those of the state, and it has the same limit, ranges, next
--- number and locks
+-- revision and where its ranges stand are those of the state, and it has the same limit, ranges,
+-- next number and locks
 pub record IsOf (state : State) (document : Document) : Type 0 where
   pub came : CameBy state.editing.loaded.text state.editing.trail document
   pub limit : document.limit ≡ state.editing.limit
@@ -62,14 +70,50 @@ pub record Reacts (before : State) (seat : ℕ) (request : Request) (step : Step
   pub leads : after ≡ (react_by before seat request (cut_at step.reply)).after
   pub cut : CutsBetween (react before seat request).made (cut_at step.reply)
 
--- a step is what comes of a request in a state, and the document and the groups are those of the
--- state after it
-pub record Meets (before : State) (seat : ℕ) (request : Request) (step : Step) (shown : Document)
-    (groups : Edits) : Type 0 where
+-- what comes of a command where the session is not closed: after so many primitives memory may have
+-- run out
+abbrev pub react_open : State → Command → Option ℕ → Reaction
+react_open state command None = react_command state command
+react_open state command (Some n) = edited state (cut_reaction state.editing command n)
+
+-- .. a step is what comes of it, and leads to another state
+pub record Carries (before : State) (command : Command) (step : Step) (after : State) : Type 0 where
+  pub reply : step.reply ≡ (react_open before command (cut_at step.reply)).reply
+  pub made : step.made ≡ (react_open before command (cut_at step.reply)).made
+  pub leads : after ≡ (react_open before command (cut_at step.reply)).after
+  pub cut : CutsBetween (react_command before command).made (cut_at step.reply)
+
+-- .. and the document, the groups and the jobs are those of that state
+pub record Meets (before : State) (command : Command) (step : Step) (shown : Document)
+    (groups : Edits) (jobs : List Job) : Type 0 where
   pub after : State
-  pub reacts : Reacts before seat request step after
+  pub carries : Carries before command step after
   pub document : IsOf after shown
   pub edits : groups ≡ after.editing.edits
+  pub jobs_now : jobs ≡ after.jobs
+  pub closed : after.closed ≡ before.closed
+
+-- what is held is that of the state
+pub record Shows (state : State) (present : Present) : Type 0 where
+  pub document : IsOf state present.doc
+  pub edits : present.undo.edits ≡ state.editing.edits
+  pub jobs : present.jobs ≡ state.jobs
+  pub closed : present.is_closed ≡ state.closed
+
+-- a reply is that of a reaction which makes no primitive, and what is held is that of the state
+-- after it
+pub record Gives (reaction : Reaction) (told : Reply) (present : Present) : Type 0 where
+  pub reply : told ≡ reaction.reply
+  pub made : reaction.made ≡ []
+  pub uncut : cut_at told ≡ None
+  pub shows : Shows reaction.after present
+
+-- a step is what comes of a request in a state, and what is held is that of the state after it
+pub record Answers (before : State) (seat : ℕ) (request : Request) (step : Step) (present : Present)
+    : Type 0 where
+  pub after : State
+  pub reacts : Reacts before seat request step after
+  pub shows : Shows after present
 
 -- what is replied of a number: where its range stands in the document
 abbrev pub told_of : ℕ → Option Standing → Reply
@@ -80,3 +124,12 @@ told_of id (Some standing) = reply.Range id standing.span
 pub record IsRefused (refusal : Refusal) (step : Step) : Type 0 where
   pub reply : step.reply ≡ reply.Refused refusal
   pub made : step.made ≡ []
+
+-- a document after ranges were made of a job's findings in the text at a revision
+pub record MakesFindings (job revision : ℕ) (findings : List Ends) (old new : Document)
+    : Type 0 where
+  pub trail : KeepsTrail old new
+  pub rest : new ≡ record old { ranges = new.ranges; next = old.next + length findings }
+  pub ranges : (id : ℕ) → get new.ranges id
+      ≡ made_of old revision (record { left = false; right = false }) Void (kind.Job job) findings
+      id

@@ -11,7 +11,6 @@ ghost use Rattle.kte_core.specs.Groups.{GroupsFit};
 ghost use Rattle.kte_core.specs.Shown.{IsAfter, IsOf, IsRefused, Meets};
 ghost use Rattle.kte_core.specs.declared.reply.Reply.TheVariants as reply;
 ghost use Rattle.kte_core.specs.declared.reply.Refusal.TheVariants as Refusal;
-ghost use Rattle.kte_core.specs.declared.request.Request.TheVariants.{Cmd};
 
 use crate::event::Step;
 use crate::reply::{Refusal, Reply};
@@ -34,7 +33,7 @@ pub(crate) fn change(
     requires { GroupsFit undo.old.edits doc.old.text }
     ensures meets { IfOk result (λ step. (state : _) → IsOf state doc.old
         → undo.old.edits ≡ state.editing.edits
-        → Meets state 0 (Cmd (command.Edit change.now)) step doc.new undo.new.edits) }
+        → Meets state (command.Edit change.now) step doc.new undo.new.edits state.jobs) }
     ensures misfits { (misfit : _) → change_misfit change.now doc.old.text ≡ Some misfit
         → IsOk result }
     ensures fit { GroupsFit undo.new.edits doc.new.text }
@@ -58,7 +57,7 @@ pub(crate) fn undo(alloc: Global, doc: &mut Doc, undo: &mut Undo) -> Result<Step
     requires { GroupsFit undo.old.edits doc.old.text }
     ensures meets { IfOk result (λ step. (state : _) → IsOf state doc.old
         → undo.old.edits ≡ state.editing.edits
-        → Meets state 0 (Cmd command.Undo) step doc.new undo.new.edits) }
+        → Meets state command.Undo step doc.new undo.new.edits state.jobs) }
     ensures still_open { 0 < undo.old.edits.depth → IsOk result }
     ensures nothing { undo.old.edits.undo ≡ [] → IsOk result }
     ensures fit { GroupsFit undo.new.edits doc.new.text }
@@ -84,7 +83,7 @@ pub(crate) fn redo(alloc: Global, doc: &mut Doc, undo: &mut Undo) -> Result<Step
     requires { GroupsFit undo.old.edits doc.old.text }
     ensures meets { IfOk result (λ step. (state : _) → IsOf state doc.old
         → undo.old.edits ≡ state.editing.edits
-        → Meets state 0 (Cmd command.Redo) step doc.new undo.new.edits) }
+        → Meets state command.Redo step doc.new undo.new.edits state.jobs) }
     ensures still_open { 0 < undo.old.edits.depth → IsOk result }
     ensures nothing { undo.old.edits.redo ≡ [] → IsOk result }
     ensures fit { GroupsFit undo.new.edits doc.new.text }

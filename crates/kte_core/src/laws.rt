@@ -8,7 +8,7 @@ ghost use Rattle.kte_command.specs.declared.command.Command.TheVariants.{Undo, R
 ghost use Rattle.kte_core.specs.Editing.{revision_of, text_of};
 ghost use Rattle.kte_core.specs.Groups.{GroupsFit, Leads};
 ghost use Rattle.kte_core.specs.React.{react, react_cut};
-ghost use Rattle.kte_core.specs.Replay.{beginning, Legal, primitives_in, replay, transactions};
+ghost use Rattle.kte_core.specs.Replay.{beginning, Answered, primitives_in, replay, transactions};
 ghost use Rattle.kte_core.specs.Requests.{IsWhole};
 ghost use Rattle.kte_core.specs.declared.reply.Reply.TheVariants.{Cut, Edited, Refused};
 ghost use Rattle.kte_core.specs.declared.request.Request.TheVariants.{Cmd};
@@ -52,7 +52,7 @@ pub fn groups_lead_from_text_to_text()
         → (react state seat (Cmd Redo)).reply ≡ Edited steps revision depth
         → text_of (react state seat (Cmd Redo)).after.editing ≡ to }
     ensures fit { (loaded limit events : _) → IsText loaded.text
-        → All (λ event. IsWhole event.request) events → Legal (beginning loaded limit) events
+        → All (λ event. IsWhole event.request) events → Answered (beginning loaded limit) events
         → GroupsFit (replay (beginning loaded limit) events).editing.edits
         (text_of (replay (beginning loaded limit) events).editing) }
 {}
@@ -61,11 +61,11 @@ pub fn groups_lead_from_text_to_text()
 /// and then those of the open one. They fit the loaded text in turn.
 pub fn transactions_are_the_trail()
     ensures trail { (loaded limit events : _) → IsText loaded.text
-        → All (λ event. IsWhole event.request) events → Legal (beginning loaded limit) events
+        → All (λ event. IsWhole event.request) events → Answered (beginning loaded limit) events
         → (replay (beginning loaded limit) events).editing.trail
         ≡ primitives_in (transactions (beginning loaded limit) events)
         ++ redo_of (replay (beginning loaded limit) events).editing.edits.current }
     ensures fit { (loaded limit events : _) → IsText loaded.text
-        → All (λ event. IsWhole event.request) events → Legal (beginning loaded limit) events
+        → All (λ event. IsWhole event.request) events → Answered (beginning loaded limit) events
         → FitInTurn (replay (beginning loaded limit) events).editing.trail loaded.text }
 {}

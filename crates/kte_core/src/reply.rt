@@ -43,6 +43,33 @@ pub enum Reply {
     Landed {
         span: Option<Span>,
     },
+    /// The job was posted, and waits.
+    Posted {
+        job: u32,
+    },
+    /// What the command asks for is to be done outside of the core now, and its outcome to be told.
+    Asked,
+    /// The seat has taken the job, the least that waited. Its rule is to be checked in the text at
+    /// this revision, which is locked until the job is delivered or given back.
+    Took {
+        job: u32,
+        revision: u64,
+    },
+    /// The job is done. Its findings became `count` ranges with rising numbers from `first` on;
+    /// without findings `first` is the number of the next range.
+    Delivered {
+        job: u32,
+        first: u64,
+        count: u64,
+    },
+    /// The job was given back, and waits again.
+    Returned {
+        job: u32,
+    },
+    /// The outcome was noted.
+    Noted,
+    /// The session is closed: every later command is refused.
+    Closed,
     /// Nothing was changed.
     Refused(Refusal),
 }
@@ -54,7 +81,8 @@ pub enum Refusal {
     Misfit(Misfit),
     /// No transaction is open, so none can be closed.
     NotOpen,
-    /// A transaction is open, at this depth, so nothing can be undone or redone.
+    /// A transaction is open, at this depth, so nothing can be undone or redone, made durable or
+    /// saved.
     StillOpen { depth: u32 },
     /// There is no group to undo, or to redo.
     Nothing,
@@ -68,4 +96,10 @@ pub enum Refusal {
     NotLocked { revision: u64, oldest: Option<u64> },
     /// The editor has no lock on the revision.
     NotOwned { revision: u64 },
+    /// No job waits. `closed` tells whether the session is closed, so that none will be posted.
+    NoJob { closed: bool },
+    /// The seat has not taken the job.
+    NotTaken { job: u32 },
+    /// The session is closed.
+    Closed,
 }

@@ -1,19 +1,18 @@
-ghost use Rattle.std.specs.Prelude.{◌≡◌, ◌≢◌, ◌+◌, ◌^◌, ◌<◌, ◌≤◌, [], ◌∷◌, ◌++◌, length, IfOk, IsOk, OnOk, OnErr};
-ghost use Rattle.kte_command.specs.declared.command.Command.TheVariants.{Begin};
-ghost use Rattle.kte_core.specs.Groups.{GroupsFit};
-ghost use Rattle.kte_core.specs.React.{react};
-ghost use Rattle.kte_core.specs.Requests.{IsAllowed};
-ghost use Rattle.kte_core.specs.Shown.{IsOf, Meets, Reacts};
-ghost use Rattle.kte_core.specs.declared.reply.Refusal.TheVariants.{RevisionsFull};
-ghost use Rattle.kte_core.specs.declared.reply.Reply.TheVariants.{Refused};
+ghost use Rattle.std.specs.Prelude.{◌≡◌, ◌≢◌, ◌+◌, ◌-◌, ◌^◌, ◌<◌, ◌≤◌, true, false, [], ◌∷◌, ◌++◌, length, Some, IfOk, IfSome, IsOk, OnOk, OnErr};
+ghost use Rattle.std.specs.Option.{option_copied};
+ghost use Rattle.kte_find.specs.Rule.{HasWord};
+ghost use Rattle.kte_jobs.specs.Jobs.{least_waiting, rule_of};
+ghost use Rattle.kte_core.specs.Jobs.{taken_at};
+ghost use Rattle.kte_core.specs.Requests.{IsAllowed, HasNumbers};
+ghost use Rattle.kte_core.specs.Shown.{IsOf, Reacts};
 
-use crate::event::{Event, Journal, Step};
-use crate::reply::Reply;
+use crate::event::{Journal, Step};
+use crate::present::{Present, answer, kept_after};
 use crate::request::Request;
-use crate::{edits, ranges, revisions};
-use kte_command::Command;
 use kte_doc::Doc;
-use kte_text::{Batch, Lines, Loaded, Text};
+use kte_find::Rule;
+use kte_jobs::Jobs;
+use kte_text::{Eol, Lines, Loaded, Text, save};
 use kte_undo::Undo;
 use std::alloc::{AllocError, Global};
 use std::marker::Model;
@@ -26,9 +25,11 @@ pub struct Core {
     // As it was loaded: the replay of the events begins there.
     loaded: Loaded,
     limit: u64,
-    doc: Doc,
-    undo: Undo,
+    present: Present,
     journal: Journal,
+    // For so many events there is always room: for the first close of the session, and for the
+    // return of each job that is taken.
+    kept: u64,
 }
 
 impl Model for Core {
@@ -45,10 +46,11 @@ impl Model for Core {
 
 impl Core {
     ghost use Rattle.kte_undo.specs.Steps.{redo_of};
-    ghost use Rattle.kte_core.specs.Editing.{text_of};
-    ghost use Rattle.kte_core.specs.Replay.{beginning, Legal, present, primitives_in, transactions};
+    ghost use Rattle.kte_core.specs.Editing.{text_of, saved_form};
+    ghost use Rattle.kte_core.specs.Replay.{beginning, Answered, present, primitives_in, transactions};
 
-    /// Creates a session at revision 0, without ranges. At most `revisions` primitives can be made.
+    /// Creates a session at revision 0, without ranges and jobs. At most `revisions` primitives can
+    /// be made.
     pub fn new(alloc: Global, loaded: Loaded, revisions: u64) -> Result<Core, AllocError>
         requires { revisions ≤ 2 ^ 31 }
         ensures { IfOk result (λ core. core
@@ -57,12 +59,19 @@ impl Core {
         // Called for its contract alone: what is loaded is a text.
         let _lines = loaded.text.lines();
         let doc = Doc::new(alloc, loaded.text.copy(alloc)?, revisions)?;
+        let mut journal = Journal::new(alloc);
+        journal.reserve(1)?;
         Ok(Core {
             loaded,
             limit: revisions,
-            doc,
-            undo: Undo::new(alloc),
-            journal: Journal::new(alloc),
+            present: Present {
+                doc,
+                undo: Undo::new(alloc),
+                jobs: Jobs::new(alloc),
+                is_closed: false,
+            },
+            journal,
+            kept: 1,
         })
     }
 
@@ -71,10 +80,12 @@ impl Core {
     ///
     /// Where memory runs out between two primitives, the reply is `Cut`: it has the number of those
     /// that were made. An undo and a redo that are cut leave the rest of the group in its list.
+    ///
+    /// The first close of the session does not allocate, nor does the return of a job by the seat
+    /// that has taken it.
     pub fn step(&mut self, alloc: Global, seat: u32, request: Request) -> Result<Step, AllocError>
         requires allowed { IsAllowed seat request }
-        requires depth { request ≡ Request.Cmd Begin
-            → (present self.old).editing.edits.depth + 1 < 2 ^ 32 }
+        requires numbers { HasNumbers (present self.old) request }
         ensures reacts { IfOk result (λ step.
             Reacts (present self.old) seat request step (present self.new)) }
         ensures event { IfOk result (λ step. self.new ≡ record self.old {
@@ -82,22 +93,23 @@ impl Core {
               ++ record { seat = seat; request = request; reply = step.reply } ∷ [];
         }) }
         ensures err { OnErr result (self.new ≡ self.old) }
+        ensures closes { request ≡ Request.Close → (present self.old).closed ≡ false
+            → IsOk result }
+        ensures returns { (job revision : _) → request ≡ Request.GiveBack job
+            → taken_at (present self.old).jobs seat job ≡ Some revision → IsOk result }
     {
-        let journal = &mut self.journal;
-        journal.events.reserve(1)?;
-        let step = carry_out(alloc, &mut self.doc, &mut self.undo, &request)?;
-        journal.events.push_reserved(Event {
-            seat,
-            request,
-            reply: step.reply,
-        });
+        let is_kept = self.present.keeps_room(seat, &request);
+        make_room(&mut self.journal, self.kept, is_kept)?;
+        let step = answer(alloc, &mut self.present, seat, &request)?;
+        self.kept = kept_after(self.kept, &step.reply);
+        self.journal.note(seat, request, step.reply);
         Ok(step)
     }
 
     /// Returns all events, in order.
     pub fn journal(&self) -> &Journal
-        ensures events { result.now ≡ self.now.events }
-        ensures legal { Legal (beginning self.now.loaded self.now.limit) self.now.events }
+        ensures events { result.now.events ≡ self.now.events }
+        ensures answered { Answered (beginning self.now.loaded self.now.limit) self.now.events }
         ensures transactions { (present self.now).editing.trail
             ≡ primitives_in
             (transactions (beginning self.now.loaded self.now.limit) self.now.events)
@@ -110,15 +122,14 @@ impl Core {
     pub fn doc(&self) -> &Doc
         ensures { IsOf (present self.now) result.now }
     {
-        &self.doc
+        &self.present.doc
     }
 
-    /// Returns how many transactions are open, each in the one before. Each was opened by an event.
+    /// Returns how many transactions are open, each in the one before.
     pub fn depth(&self) -> u32
-        ensures depth { result ≡ (present self.now).editing.edits.depth }
-        ensures within { result ≤ length self.now.events }
+        ensures { result ≡ (present self.now).editing.edits.depth }
     {
-        self.undo.depth()
+        self.present.undo.depth()
     }
 
     /// Returns how many groups may be undone, and how many may be redone.
@@ -126,73 +137,68 @@ impl Core {
         ensures undo { result.0 ≡ length (present self.now).editing.edits.undo }
         ensures redo { result.1 ≡ length (present self.now).editing.edits.redo }
     {
-        self.undo.counts()
+        self.present.undo.counts()
+    }
+
+    /// Returns the least number of a job that waits, if one does.
+    pub fn waiting(&self) -> Option<u32>
+        ensures { result ≡ least_waiting (present self.now).jobs }
+    {
+        self.present.jobs.waiting()
+    }
+
+    /// Returns the rule of a job; `None` if there is no job of this number.
+    pub fn rule(&self, job: u32) -> Option<&Rule>
+        ensures value { option_copied result ≡ rule_of (present self.now).jobs job }
+        ensures word { IfSome result (λ rule. HasWord rule.now) }
+    {
+        self.present.jobs.rule(job)
+    }
+
+    /// Returns whether the session is closed.
+    pub fn is_closed(&self) -> bool
+        ensures { result ≡ (present self.now).closed }
+    {
+        self.present.is_closed
+    }
+
+    /// Returns the line end that the text is saved with, and whether a byte order mark is: those of
+    /// the loaded file.
+    pub fn line_end(&self) -> (Eol, bool)
+        ensures eol { result.0 ≡ (present self.now).editing.loaded.eol }
+        ensures bom { result.1 ≡ (present self.now).editing.loaded.bom }
+    {
+        (self.loaded.eol, self.loaded.bom)
     }
 
     /// Returns a copy of the present text.
     pub fn copy_text(&self, alloc: Global) -> Result<Text, AllocError>
         ensures { IfOk result (λ text. text ≡ text_of (present self.now).editing) }
     {
-        self.doc.copy_text(alloc)
+        self.present.doc.copy_text(alloc)
+    }
+
+    /// Returns the bytes that saving writes now: the present text with the line end and the byte
+    /// order mark of the loaded file.
+    pub fn saved_form(&self, alloc: Global) -> Result<Vec<u8>, AllocError>
+        ensures { IfOk result (λ bytes. bytes.items ≡ saved_form (present self.now).editing) }
+    {
+        save(alloc, &self.present.doc, self.loaded.eol, self.loaded.bom)
     }
 }
 
-/// Carries out a request in the document. A request that is refused takes no memory, unless it
-/// would lead past the last revision.
-fn carry_out(
-    alloc: Global,
-    doc: &mut Doc,
-    undo: &mut Undo,
-    request: &Request,
-) -> Result<Step, AllocError>
-    requires allowed { IsAllowed 0 request.now }
-    requires number { doc.old.next < 2 ^ 63 }
-    requires depth { request.now ≡ Request.Cmd Begin → undo.old.edits.depth + 1 < 2 ^ 32 }
-    requires fit { GroupsFit undo.old.edits doc.old.text }
-    ensures meets { IfOk result (λ step. (state : _) → IsOf state doc.old
-        → undo.old.edits ≡ state.editing.edits
-        → Meets state 0 request.now step doc.new undo.new.edits) }
-    ensures refused { (state refusal : _) → IsOf state doc.old
-        → undo.old.edits ≡ state.editing.edits
-        → (react state 0 request.now).reply ≡ Refused refusal
-        → ((revision : _) → refusal ≢ RevisionsFull revision) → IsOk result }
-    ensures fit { (state : _) → IsOf state doc.old → GroupsFit undo.new.edits doc.new.text }
-    ensures err { OnErr result (doc.new ≡ doc.old) }
-    ensures err_edits { OnErr result (undo.new.edits ≡ undo.old.edits) }
+/// Makes room for one event more beside those for which room is kept, and for one that may have to
+/// be kept then. For an event for which room is kept this does not allocate.
+fn make_room(journal: &mut Journal, kept: u64, is_kept: bool) -> Result<(), AllocError>
+    requires number { kept < 2 ^ 64 - 2 }
+    requires room { kept ≤ journal.old.room }
+    ensures kept { is_kept ≡ true → IsOk result }
+    ensures ok { OnOk result (is_kept ≡ false → kept + 2 ≤ journal.new.room) }
+    ensures room { kept ≤ journal.new.room }
+    ensures events { journal.new.events ≡ journal.old.events }
 {
-    let reply = match request.command() {
-        Command::Edit { change } => return edits::change(alloc, doc, undo, change),
-        Command::Undo => return edits::undo(alloc, doc, undo),
-        Command::Redo => return edits::redo(alloc, doc, undo),
-        Command::Begin => edits::begin(undo),
-        Command::End => edits::end(undo),
-        Command::MakeRange {
-            span,
-            expand,
-            empty,
-        } => ranges::make(doc, *span, *expand, *empty)?,
-        Command::SetRange { id, span } => ranges::set(doc, *id, *span)?,
-        Command::DropRange { id } => ranges::take_away(doc, *id),
-        Command::ShowRange { id } => ranges::show(doc, *id),
-        Command::Lock => revisions::lock(doc)?,
-        Command::Unlock { revision } => revisions::unlock(doc, *revision),
-        Command::Land {
-            revision,
-            span,
-            expand,
-            empty,
-        } => revisions::land(doc, *revision, *span, *expand, *empty),
-    };
-    Ok(replied(alloc, reply))
-}
-
-/// Returns the step of a reply for which no primitive was made.
-fn replied(alloc: Global, reply: Reply) -> Step
-    ensures reply { result.reply ≡ reply }
-    ensures made { result.made ≡ [] }
-{
-    Step {
-        reply,
-        made: Batch::new(alloc),
+    if is_kept {
+        return Ok(());
     }
+    journal.reserve(kept + 2)
 }

@@ -1,9 +1,13 @@
+ghost use Rattle.std.specs.Prelude.{◌≡◌, ◌≤◌, ◌^◌, [], ◌∷◌, IfOk};
 ghost use Rattle.kte_command.specs.Commands.{InRange};
+ghost use Rattle.kte_core.specs.Requests.{IsAllowed, ranges_of};
+ghost use Rattle.kte_place.specs.Examples.{span};
 
-use crate::{Core, Event, Journal, Refusal, Reply, Request, Step};
+use crate::{Core, Event, Journal, OutsideCall, Refusal, Reply, Request, Step};
 use kte_command::Command;
 use kte_edit::Change;
-use kte_place::{Place, Span};
+use kte_find::Rule;
+use kte_place::{Place, Span, Spans};
 use kte_text::{Lines, Misfit, load};
 use std::alloc::Global;
 use std::process::Abort;
@@ -13,12 +17,22 @@ fn place(line: u32, column: u64) -> Place {
     Place { line, column }
 }
 
+/// Asks for something as a seat, while there are few events and ranges.
+fn step(alloc: Global, core: &mut Core, seat: u32, request: Request) -> Result<Step, Fail>
+    requires allowed { IsAllowed seat request }
+    requires few { ranges_of request ≤ 99 }
+{
+    if core.journal().len() > 99 || core.doc().next_id() > 99 {
+        return Err(Fail::from("too many"));
+    }
+    Ok(core.step(alloc, seat, request)?)
+}
+
 /// Asks for a command.
 fn ask(alloc: Global, core: &mut Core, command: Command) -> Result<Step, Fail>
     requires { InRange command }
 {
-    let _deeper = core.depth().checked_add(1).ok_or("too deep")?;
-    Ok(core.step(alloc, 0, Request::Cmd(command))?)
+    step(alloc, core, 0, Request::Cmd(command))
 }
 
 /// Asks for an insertion at a place.
@@ -317,6 +331,133 @@ fn steps_of_only_a_group_that_is_kept_empties_what_may_be_redone(
     assert_eq!(rt; insert(alloc, core, place(0, 0), b"x")?, edited(1, 3));
     assert_eq!(rt; core.undo_counts(), (1, 0));
     assert_eq!(rt; shown(alloc, core)?.as_str(), "|xab");
+    Ok(())
+}
+
+#[test]
+fn a_finding_lands_from_the_revision_at_which_its_job_was_taken(
+    rt: HostRuntime,
+) -> Result<(), Fail> {
+    let alloc = rt.alloc();
+    let mut core = Core::new(alloc, load(alloc, b"x\na  ")?, 99)?;
+    steps_of_a_finding_lands_from_the_revision_at_which_its_job_was_taken(&rt, alloc, &mut core)
+}
+
+fn steps_of_a_finding_lands_from_the_revision_at_which_its_job_was_taken(
+    rt: &impl Abort,
+    alloc: Global,
+    core: &mut Core,
+) -> Result<(), Fail> {
+    let check = Command::Check { rule: Rule::Blanks };
+    assert_eq!(rt; ask(alloc, core, check)?.reply, Reply::Posted { job: 1 });
+    assert!(rt; matches!(core.rule(1), Some(Rule::Blanks)));
+    let took = Reply::Took {
+        job: 1,
+        revision: 0,
+    };
+    assert_eq!(rt; step(alloc, core, 1, Request::Take)?.reply, took);
+    assert_eq!(rt; core.waiting(), None);
+    let removed = remove(alloc, core, place(0, 1), place(1, 3))?;
+    assert_eq!(rt; removed, edited(2, 2));
+    assert_eq!(rt; ask(alloc, core, Command::Undo)?.reply, edited(2, 4));
+    let saved = core.saved_form(alloc)?;
+    assert_eq!(rt; saved.as_slice(), b"x\na  ".as_slice());
+    let delivered = Reply::Delivered {
+        job: 1,
+        first: 1,
+        count: 1,
+    };
+    assert_eq!(rt; deliver(alloc, core, 1, 1)?, delivered);
+    let invalid = Reply::Range { id: 1, span: None };
+    let show = Command::ShowRange { id: 1 };
+    assert_eq!(rt; ask(alloc, core, show)?.reply, invalid);
+    Ok(())
+}
+
+/// Delivers one finding of a job.
+fn deliver(alloc: Global, core: &mut Core, seat: u32, job: u32) -> Result<Reply, Fail> {
+    let findings = blanks(alloc)?;
+    let request = Request::Deliver { job, findings };
+    Ok(step(alloc, core, seat, request)?.reply)
+}
+
+/// The blanks at the end of the second line.
+fn blanks(alloc: Global) -> Result<Spans, Fail>
+    ensures { IfOk result (λ spans. spans ≡ span 1 1 1 3 ∷ []) }
+{
+    let start = Place { line: 1, column: 1 };
+    let end = Place { line: 1, column: 3 };
+    let mut spans = Spans::new(alloc);
+    spans.push(Span { start, end })?;
+    Ok(spans)
+}
+
+#[test]
+fn a_job_is_refused_to_other_seats(rt: HostRuntime) -> Result<(), Fail> {
+    let alloc = rt.alloc();
+    let mut core = Core::new(alloc, load(alloc, b"x\na  ")?, 99)?;
+    steps_of_a_job_is_refused_to_other_seats(&rt, alloc, &mut core)
+}
+
+fn steps_of_a_job_is_refused_to_other_seats(
+    rt: &impl Abort,
+    alloc: Global,
+    core: &mut Core,
+) -> Result<(), Fail> {
+    let no_job = Reply::Refused(Refusal::NoJob { closed: false });
+    let not_taken = Reply::Refused(Refusal::NotTaken { job: 1 });
+    let took = Reply::Took {
+        job: 1,
+        revision: 0,
+    };
+    let returned = Reply::Returned { job: 1 };
+    assert_eq!(rt; step(alloc, core, 1, Request::Take)?.reply, no_job);
+    assert_eq!(rt; give_back(alloc, core, 1)?, not_taken);
+    let check = Command::Check { rule: Rule::Pairs };
+    assert_eq!(rt; ask(alloc, core, check)?.reply, Reply::Posted { job: 1 });
+    assert_eq!(rt; give_back(alloc, core, 1)?, not_taken);
+    assert_eq!(rt; step(alloc, core, 1, Request::Take)?.reply, took);
+    assert_eq!(rt; give_back(alloc, core, 2)?, not_taken);
+    assert_eq!(rt; deliver(alloc, core, 2, 1)?, not_taken);
+    assert_eq!(rt; give_back(alloc, core, 1)?, returned);
+    assert_eq!(rt; step(alloc, core, 2, Request::Take)?.reply, took);
+    assert_eq!(rt; step(alloc, core, 1, Request::Take)?.reply, no_job);
+    Ok(())
+}
+
+/// Gives the first job back.
+fn give_back(alloc: Global, core: &mut Core, seat: u32) -> Result<Reply, Fail> {
+    Ok(step(alloc, core, seat, Request::GiveBack { job: 1 })?.reply)
+}
+
+#[test]
+fn a_closed_session_refuses_each_command(rt: HostRuntime) -> Result<(), Fail> {
+    let alloc = rt.alloc();
+    let mut core = Core::new(alloc, load(alloc, b"a")?, 99)?;
+    steps_of_a_closed_session_refuses_each_command(&rt, alloc, &mut core)
+}
+
+fn steps_of_a_closed_session_refuses_each_command(
+    rt: &impl Abort,
+    alloc: Global,
+    core: &mut Core,
+) -> Result<(), Fail> {
+    let open = Reply::Refused(Refusal::StillOpen { depth: 1 });
+    let closed = Reply::Refused(Refusal::Closed);
+    let no_job = Reply::Refused(Refusal::NoJob { closed: true });
+    assert_eq!(rt; ask(alloc, core, Command::Sync)?.reply, Reply::Asked);
+    assert_eq!(rt; ask(alloc, core, Command::Save)?.reply, Reply::Asked);
+    let _ = ask(alloc, core, Command::Begin)?;
+    assert_eq!(rt; ask(alloc, core, Command::Sync)?.reply, open);
+    assert_eq!(rt; ask(alloc, core, Command::Save)?.reply, open);
+    assert_eq!(rt; step(alloc, core, 0, Request::Close)?.reply, Reply::Closed);
+    assert!(rt; core.is_closed());
+    assert_eq!(rt; step(alloc, core, 0, Request::Close)?.reply, closed);
+    assert_eq!(rt; ask(alloc, core, Command::End)?.reply, closed);
+    assert_eq!(rt; step(alloc, core, 1, Request::Take)?.reply, no_job);
+    let (call, ok) = (OutsideCall::Save, true);
+    let outcome = Request::Outcome { call, ok };
+    assert_eq!(rt; step(alloc, core, 0, outcome)?.reply, Reply::Noted);
     Ok(())
 }
 

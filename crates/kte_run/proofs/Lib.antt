@@ -1,6 +1,13 @@
 pub mod Left
-pub mod Journals
 pub mod Answering
 pub mod Files
-mod Examples
 pub mod Ascii
+pub mod EditorLemmas
+pub mod FoundLemmas
+pub mod HistoryLemmas
+pub mod ServeLemmas
+pub mod AskLemmas
+pub mod OneHistory
+pub mod OutputLemmas
+mod Examples
+mod ScheduleExamples

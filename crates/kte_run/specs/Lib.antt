@@ -1,4 +1,5 @@
-pub mod Output
 pub mod Statuses
+pub mod Schedule
+pub mod Editor
+pub mod Alone
 pub mod Run
-pub mod Asking

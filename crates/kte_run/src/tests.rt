@@ -1,11 +1,12 @@
 ghost use Rattle.std.specs.Prelude.{Some, None};
 ghost use Rattle.kte_causes.specs.Faults.{last_count};
 
-use crate::{Status, run};
+use crate::{Status, edit_alone, run};
 use kte_causes::{
     CalmDisk, CalmSink, CalmSource, Disk, DiskCall, DiskFail, DiskPlan, MemDisk, MemSink,
     MemSource, Sink, SinkFail, read_whole,
 };
+use kte_find::PlainChecker;
 use kte_script::ScriptFault;
 use kte_text::MAX_FILE_LENGTH;
 use kte_words::Word;
@@ -16,7 +17,14 @@ const FILE: &[u8] = b"hello\n";
 
 const SCRIPT: &[u8] = b"insert 0 5 \"!\"";
 
-const OUTPUT: &[u8] = b"edited 1 1 0\ntext\n|hello!\n|\n";
+const SHOWN: &[u8] = b"edited 1 1 0\ntext\n|hello!\n|\n";
+
+const OUTPUT: &[u8] = b"journal 2\n\
+0 insert 0 5 \"!\" = edited 1 1 0\n\
+0 close = closed\n\
+report\nlines 2\nrevision 1\nsize 7\nkept 0\nundo 1 0\nranges 0\nhidden 0\n\
+digest 4effa19f4f75f846c3229b9dbdbad14eff362f32\n\
+text\n|hello!\n|\n";
 
 fn words(alloc: Global, texts: &[&str]) -> Result<Vec<Word>, Fail> {
     let mut words = Vec::new(alloc);
@@ -46,20 +54,85 @@ fn outcome(
     let mut source = CalmSource::new(script.to_vec(alloc)?);
     let mut disk = CalmDisk::new(file.to_vec(alloc)?, Vec::new(alloc));
     let mut sink = CalmSink::new(alloc);
-    let status = run(rt, alloc, &words, &mut source, &mut disk, &mut sink);
+    let status = run(
+        rt,
+        alloc,
+        &words,
+        &mut source,
+        &mut disk,
+        &mut sink,
+        &PlainChecker,
+    );
     Ok((ended(status)?, sink.bytes().to_vec(alloc)?))
 }
 
-/// The same for `edit FILE`, with the status's code.
+/// The replies of a journal but for that of the close, and the text of the report after it.
+fn shown(alloc: Global, written: &[u8]) -> Result<Vec<u8>, Fail> {
+    let mut shown = Vec::new(alloc);
+    let mut is_text = false;
+    for line in str::from_utf8(written)?.lines() {
+        is_text = is_text || line == "text";
+        let reply = match line.rsplit_once(" = ") {
+            _ if is_text => Some(line),
+            Some((_, reply)) if reply != "closed" => Some(reply),
+            _ => None,
+        };
+        if let Some(reply) = reply {
+            shown.extend_from_slice(reply.as_bytes())?;
+            shown.push(b'\n')?;
+        }
+    }
+    Ok(shown)
+}
+
+/// The status's code of `edit FILE`, and the replies and the text.
 fn edit(rt: &HostRuntime, script: &[u8], file: &[u8]) -> Result<(u8, Vec<u8>), Fail> {
     let (status, written) = outcome(rt, &["edit", "file"], script, file)?;
-    Ok((status.code(), written))
+    Ok((status.code(), shown(rt.alloc(), &written)?))
+}
+
+#[test]
+fn the_whole_output(rt: HostRuntime) -> Result<(), Fail> {
+    let table: [(&[u8], &[u8], &[u8]); 4] = [
+        (FILE, SCRIPT, OUTPUT),
+        (
+            b"",
+            b"",
+            b"journal 1\n0 close = closed\n\
+report\nlines 1\nrevision 0\nsize 0\nkept 0\nundo 0 0\nranges 0\nhidden 0\n\
+digest e69de29bb2d1d6434b8b29ae775ad8c2e48c5391\ntext\n|\n",
+        ),
+        (
+            b"",
+            b"undo\nbegin\ninsert 0 0 \"a\"\nundo",
+            b"journal 6\n0 undo = refused nothing\n0 begin = depth 1\n\
+0 insert 0 0 \"a\" = edited 1 1 1\n0 undo = refused stillopen 1\n0 end = depth 0\n\
+0 close = closed\n\
+report\nlines 1\nrevision 1\nsize 1\nkept 0\nundo 1 0\nranges 0\nhidden 0\n\
+digest 2e65efe2a145dda7ee51d1741299f848e5bf752e\ntext\n|a\n",
+        ),
+        (
+            b"a  \n",
+            b"check blanks",
+            b"journal 4\n0 check blanks = posted 1\n0 close = closed\n0 take = took 1 0\n\
+0 deliver 1 0 1 0 3 = delivered 1 1 1\n\
+report\nlines 2\nrevision 0\nsize 4\nkept 0\nundo 0 0\nranges 1\n\
+range 1 job 1 none void 0 1 0 3\nhidden 0\n\
+digest 0d13814d585b11dbeae7a42377d7422f93d2be15\ntext\n|a  \n|\n",
+        ),
+    ];
+    for (file, script, output) in table {
+        let (status, written) = outcome(&rt, &["edit", "file"], script, file)?;
+        assert_eq!(rt; status, Status::Ok);
+        assert_eq!(rt; written.as_slice(), output);
+    }
+    Ok(())
 }
 
 #[test]
 fn one_insertion_from_bytes_to_bytes(rt: HostRuntime) -> Result<(), Fail> {
     let table: [(&[u8], &[u8], u8, &[u8]); 6] = [
-        (FILE, SCRIPT, 0, OUTPUT),
+        (FILE, SCRIPT, 0, SHOWN),
         (
             FILE,
             b"insert 0 6 \"!\"",
@@ -83,7 +156,7 @@ fn one_insertion_from_bytes_to_bytes(rt: HostRuntime) -> Result<(), Fail> {
 fn a_script_has_comments_and_spare_spaces(rt: HostRuntime) -> Result<(), Fail> {
     let table: [(&[u8], &[u8]); 7] = [
         (b"", b"text\n|hello\n|\n"),
-        (b"\n# nothing\n  insert  00 005   \"!\" \r\n\n", OUTPUT),
+        (b"\n# nothing\n  insert  00 005   \"!\" \r\n\n", SHOWN),
         (
             b"wrap 0 4\nremove 1 1 1 0",
             b"edited 1 1 0\nedited 1 2 0\ntext\n|hell\n|\n|\n",
@@ -293,7 +366,7 @@ fn a_refused_command_in_mid_script_changes_nothing(rt: HostRuntime) -> Result<()
         let mut output = b"range 1 0 0 0 1\n".to_vec(alloc)?;
         output.extend_from_slice(reply)?;
         output.push(b'\n')?;
-        output.extend_from_slice(OUTPUT)?;
+        output.extend_from_slice(SHOWN)?;
         let (ended, written) = edit(&rt, &script, FILE)?;
         assert_eq!(rt; ended, 0);
         assert_eq!(rt; written.as_slice(), output.as_slice());
@@ -354,11 +427,10 @@ impl Disk for LongDisk {
 #[test]
 fn a_file_that_is_too_long(rt: HostRuntime) -> Result<(), Fail> {
     let alloc = rt.alloc();
-    let words = words(alloc, &["edit", "file"])?;
     let mut source = CalmSource::new(SCRIPT.to_vec(alloc)?);
     let mut sink = CalmSink::new(alloc);
     let mut disk = LongDisk {};
-    let status = run(&rt, alloc, &words, &mut source, &mut disk, &mut sink);
+    let status = edit_alone(alloc, &mut source, &mut disk, &mut sink, &PlainChecker);
     assert_eq!(rt; ended(status)?, Status::TooLarge { size: None });
     assert!(rt; sink.bytes().is_empty());
     Ok(())
@@ -385,11 +457,10 @@ fn words_that_are_no_command(rt: HostRuntime) -> Result<(), Fail> {
 #[test]
 fn a_read_that_fails_in_mid_stream(rt: HostRuntime) -> Result<(), Fail> {
     let alloc = rt.alloc();
-    let words = words(alloc, &["edit", "file"])?;
     let mut script = MemSource::new(script_of_letters(alloc, 4987)?, vec![in alloc; 1]?);
     let mut disk = CalmDisk::new(FILE.to_vec(alloc)?, Vec::new(alloc));
     let mut sink = CalmSink::new(alloc);
-    let status = run(&rt, alloc, &words, &mut script, &mut disk, &mut sink);
+    let status = edit_alone(alloc, &mut script, &mut disk, &mut sink, &PlainChecker);
     assert_eq!(rt; ended(status)?, Status::ReadFault);
     assert!(rt; sink.bytes().is_empty());
     // The first read took 4096 bytes.
@@ -417,15 +488,14 @@ impl Sink for SlowSink {
 #[test]
 fn a_write_that_fails_leaves_the_first_of_the_output(rt: HostRuntime) -> Result<(), Fail> {
     let alloc = rt.alloc();
-    let words = words(alloc, &["edit", "file"])?;
-    let table: [(u64, &[u8]); 2] = [(0, b""), (1, b"edit")];
+    let table: [(u64, &[u8]); 2] = [(0, b""), (1, b"jour")];
     for (failing, first) in table {
         let mut script = CalmSource::new(SCRIPT.to_vec(alloc)?);
         let mut disk = CalmDisk::new(FILE.to_vec(alloc)?, Vec::new(alloc));
         let mut sink = SlowSink {
             sink: MemSink::new(alloc, vec![in alloc; failing]?),
         };
-        let status = run(&rt, alloc, &words, &mut script, &mut disk, &mut sink);
+        let status = edit_alone(alloc, &mut script, &mut disk, &mut sink, &PlainChecker);
         assert_eq!(rt; ended(status)?, Status::WriteFault);
         assert_eq!(rt; sink.sink.bytes(), first);
     }
@@ -435,7 +505,6 @@ fn a_write_that_fails_leaves_the_first_of_the_output(rt: HostRuntime) -> Result<
 #[test]
 fn a_disk_that_fails(rt: HostRuntime) -> Result<(), Fail> {
     let alloc = rt.alloc();
-    let words = words(alloc, &["edit", "file"])?;
     for call in [DiskCall::SavedLen, DiskCall::SavedAt] {
         let mut script = CalmSource::new(SCRIPT.to_vec(alloc)?);
         let plan = DiskPlan {
@@ -445,12 +514,12 @@ fn a_disk_that_fails(rt: HostRuntime) -> Result<(), Fail> {
         };
         let mut disk = MemDisk::new(FILE.to_vec(alloc)?, Vec::new(alloc), vec![in alloc; plan]?);
         let mut sink = CalmSink::new(alloc);
-        let status = run(&rt, alloc, &words, &mut script, &mut disk, &mut sink);
+        let status = edit_alone(alloc, &mut script, &mut disk, &mut sink, &PlainChecker);
         assert_eq!(rt; ended(status)?, Status::DiskFault);
         assert!(rt; sink.bytes().is_empty());
         // The next run over the same disk meets no fault.
         let mut script = CalmSource::new(SCRIPT.to_vec(alloc)?);
-        let status = run(&rt, alloc, &words, &mut script, &mut disk, &mut sink);
+        let status = edit_alone(alloc, &mut script, &mut disk, &mut sink, &PlainChecker);
         assert_eq!(rt; ended(status)?, Status::Ok);
         assert_eq!(rt; sink.bytes(), OUTPUT);
     }

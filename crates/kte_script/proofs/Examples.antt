@@ -9,11 +9,13 @@ use Rattle.kte_place.specs.Place.{at}
 use Rattle.kte_place.specs.Examples.{span, expand}
 use Rattle.kte_place.specs.declared.span.Empty.TheVariants.{Allow, Void}
 use Rattle.kte_edit.specs.declared.change.Change.TheVariants as Change
-use Rattle.kte_command.specs.declared.command.Command.TheVariants.{Edit, Begin, End, Undo, Redo, MakeRange, SetRange}
+use Rattle.kte_command.specs.declared.command.Command.TheVariants.{Edit, Begin, End, Undo, Redo, MakeRange, SetRange, DropRange, Check, Sync, Save}
+use Rattle.kte_find.specs.declared.rule.Rule.TheVariants as rules
+use Rattle.kte_script.specs.declared.limits.Limits.TheVariants.{Journal}
 use Rattle.kte_script.specs.Words.{skip, word, behind, is_number, number_of}
-use Rattle.kte_script.specs.Strings.{string_from, string_at, line_in, text_in, spell_byte, spell_text}
-use Rattle.kte_script.specs.Fields.{number_at, place_at, span_at, text_at, expand_of, expand_at, empty_of, empty_at}
-use Rattle.kte_script.specs.Table.{spelling}
+use Rattle.kte_script.specs.Strings.{string_from, string_at, line_in, text_in, pattern_in, spell_byte, spell_text}
+use Rattle.kte_script.specs.Fields.{number_at, place_at, span_at, text_at, spans_at, pattern_at, rule_name, rule_at, expand_of, expand_at, empty_of, empty_at}
+use Rattle.kte_script.specs.Table.{table, spelling}
 use Rattle.kte_script.specs.Reading.{row_at, front_at, end_at, command_at}
 use Rattle.kte_script.specs.Script.{lines_of}
 
@@ -101,6 +103,79 @@ eleven_digits : command_at (codes "unwrap 00000000000") ≡ Err 11
 unfolding skip word behind is_number number_of number_at row_at front_at end_at command_at
 eleven_digits = refl
 
+-- rules
+checked_word : command_at (codes "check word " ++ 34 ∷ 97 ∷ 98 ∷ 34 ∷ []) ≡ Ok (Check (rules.Word (codes "ab")))
+unfolding skip word behind string_from string_at line_in pattern_in pattern_at is_utf8 chars encode_utf8 rule_name rule_at row_at front_at end_at command_at
+checked_word = refl
+
+checked_blanks : command_at (codes " check  blanks ") ≡ Ok (Check rules.Blanks)
+unfolding skip word behind rule_name rule_at row_at front_at end_at command_at
+checked_blanks = refl
+
+checked_long : command_at (codes "check long 080") ≡ Ok (Check (rules.Long 80))
+unfolding skip word behind is_number number_of number_at rule_name rule_at row_at front_at end_at command_at
+checked_long = refl
+
+checked_pairs : command_at (codes "check pairs") ≡ Ok (Check rules.Pairs)
+unfolding skip word behind rule_name rule_at row_at front_at end_at command_at
+checked_pairs = refl
+
+checked_repeat : command_at (codes "check repeat") ≡ Ok (Check rules.Repeat)
+unfolding skip word behind rule_name rule_at row_at front_at end_at command_at
+checked_repeat = refl
+
+no_rule : command_at (codes "check foo") ≡ Err 3
+unfolding skip word behind rule_name rule_at row_at front_at end_at command_at
+no_rule = refl
+
+-- no word and several lines are no pattern
+no_word : command_at (codes "check word " ++ 34 ∷ 34 ∷ []) ≡ Err 2
+unfolding skip word behind string_from string_at line_in pattern_in pattern_at is_utf8 chars encode_utf8 rule_name rule_at row_at front_at end_at command_at
+no_word = refl
+
+two_words : command_at (codes "check word " ++ 34 ∷ 97 ∷ 92 ∷ 110 ∷ 34 ∷ []) ≡ Err 5
+unfolding skip word behind string_from string_at line_in pattern_in pattern_at is_utf8 chars encode_utf8 rule_name rule_at row_at front_at end_at command_at
+two_words = refl
+
+-- scripts have no word for these yet, and journals have
+no_sync : command_at (codes "sync") ≡ Err 4
+unfolding skip word behind row_at front_at end_at command_at
+no_sync = refl
+
+no_save : command_at (codes " save") ≡ Err 4
+unfolding skip word behind row_at front_at end_at command_at
+no_save = refl
+
+synced : front_at Journal table (codes "sync = asked") ≡ Ok (Sync, codes " = asked")
+unfolding skip word behind row_at front_at
+synced = refl
+
+saved : front_at Journal table (codes "save ") ≡ Ok (Save, codes " ")
+unfolding skip word behind row_at front_at
+saved = refl
+
+-- numbers of a journal are as large as their types
+greatest : front_at Journal table (codes "droprange 18446744073709551615 ") ≡ Ok (DropRange 18446744073709551615, codes " ")
+unfolding skip word behind is_number number_of number_at row_at front_at
+greatest = refl
+
+above : front_at Journal table (codes "droprange 18446744073709551616") ≡ Err 20
+unfolding skip word behind is_number number_of number_at row_at front_at
+above = refl
+
+-- spans go on while a digit begins the next word
+found : spans_at Journal (codes " 0 1 0 2 1 0 1 9 = 2") ≡ Ok (span 0 1 0 2 ∷ span 1 0 1 9 ∷ [], codes " = 2")
+unfolding skip word behind is_number number_of number_at place_at span_at spans_at
+found = refl
+
+nothing_found : spans_at Journal (codes "") ≡ Ok ([], codes "")
+unfolding spans_at
+nothing_found = refl
+
+half_found : spans_at Journal (codes " 0 1 0 2 1 0 x 9") ≡ Err 3
+unfolding skip word behind is_number number_of number_at place_at span_at spans_at
+half_found = refl
+
 -- ---- strings
 
 -- `"a\"\x07" b`: a mark that is escaped does not end it
@@ -186,3 +261,26 @@ spelled_range = refl
 spelled_set : spelling (SetRange 7 (span 0 0 0 10)) ≡ codes "setrange 7 0 0 0 10"
 unfolding digits
 spelled_set = refl
+
+spelled_word : spelling (Check (rules.Word (codes "ab"))) ≡ codes "check word " ++ 34 ∷ 97 ∷ 98 ∷ 34 ∷ []
+unfolding spell_byte spell_text utf16_chars encode_utf8
+spelled_word = refl
+
+spelled_rules : spelling (Check rules.Blanks) ≡ codes "check blanks"
+spelled_rules = refl
+
+spelled_long : spelling (Check (rules.Long 80)) ≡ codes "check long 80"
+unfolding digits
+spelled_long = refl
+
+spelled_pairs : spelling (Check rules.Pairs) ≡ codes "check pairs"
+spelled_pairs = refl
+
+spelled_repeat : spelling (Check rules.Repeat) ≡ codes "check repeat"
+spelled_repeat = refl
+
+spelled_sync : spelling Sync ≡ codes "sync"
+spelled_sync = refl
+
+spelled_save : spelling Save ≡ codes "save"
+spelled_save = refl

@@ -10,7 +10,11 @@ pub mod RoundLemmas
 pub mod TextLemmas
 pub mod ReadsLemmas
 pub mod PieceLemmas
+pub mod FieldInWordsLemmas
+pub mod SpansLemmas
 pub mod LineInWordsLemmas
 pub mod WithinLemmas
+pub mod FoundLemmas
 pub mod ScriptInWordsLemmas
+pub mod CallerLemmas
 mod Examples

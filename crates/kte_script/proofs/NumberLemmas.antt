@@ -1,13 +1,12 @@
 -- The value of decimal digits.
-use Rattle.std.proofs.Common.{◌≡◌, ℕ, ◌+◌, ◌-◌, ◌*◌, ◌^◌, ◌<◌, ◌≤◌, true, List, [], ◌∷◌, length, take, get_or, arith}
+use Rattle.std.proofs.Common.{◌≡◌, ℕ, ◌+◌, ◌-◌, ◌*◌, ◌<◌, ◌≤◌, true, List, [], ◌∷◌, length, take, get_or, arith}
 use Rattle.std.specs.Char.{is_ascii_digit, digit_value}
 use Rattle.std.specs.List.{list_all}
 use Rattle.std.specs.Str.Parse.{digits_value, AllDigits}
-use Rattle.std.proofs.lemmas.Int.Digits.{digits_value-lt, digits_value_more}
+use Rattle.std.proofs.lemmas.Int.Digits.{digits_value_more}
+use Rattle.std.proofs.lemmas.Str.Parse.{digits_value-take-le}
 use Rattle.std.proofs.lemmas.List.Sums.{AllPass-from_list_all, list_all-from_AllPass}
-use Rattle.std.proofs.lemmas.List.Elements.{All-take, All-tail}
-use Rattle.std.proofs.lemmas.List.{length-take}
-use Rattle.std.proofs.Math.Nat.{pow-le-pow_right}
+use Rattle.std.proofs.lemmas.List.Elements.{All-tail}
 use Rattle.std.proofs.lemmas.Bool.Decides.{nat_tests}
 
 -- a digit's value is how far it is above `0`
@@ -22,28 +21,14 @@ digits (c ∷ cs) h =
     let others = All-tail (λ d. is_ascii_digit d ≡ true) c cs pass in
     (omega arith, digits cs (list_all-from_AllPass is_ascii_digit cs others))
 
--- nine digits have a value below 10^9
-small : (ds : List ℕ) → list_all is_ascii_digit ds ≡ true → length ds ≤ 9
-    → digits_value 10 ds < 1000000000
-small ds all few =
-    let below : digits_value 10 ds < 10 ^ length ds = digits_value-lt 10 ds (digits ds all) in
-    let most : 10 ^ length ds ≤ 10 ^ 9 = pow-le-pow_right {n = 10} (omega arith) few in
-    omega arith
-
 -- the digits up to an index, and one more
 pub record OneMore (ds : List ℕ) (i : ℕ) : Type 0 where
   pub value : digits_value 10 (take (i + 1) ds) ≡ digits_value 10 (take i ds) * 10 + (get_or ds i 0 - 48)
   pub least : 48 ≤ get_or ds i 0
-  pub greatest : get_or ds i 0 ≤ 57
-  pub before : digits_value 10 (take i ds) < 1000000000
+  pub whole : digits_value 10 (take (i + 1) ds) ≤ digits_value 10 ds
 
-pub one_more : (ds : List ℕ) (i : ℕ) → list_all is_ascii_digit ds ≡ true → length ds ≤ 10
-    → i < length ds → OneMore ds i
-one_more ds i all few lt =
-    let pass = AllPass-from_list_all is_ascii_digit ds all in
-    let here = digit (get_or ds i 0) (pass i 0 lt) in
-    let front : list_all is_ascii_digit (take i ds) ≡ true =
-    list_all-from_AllPass is_ascii_digit (take i ds) (All-take (λ c. is_ascii_digit c ≡ true) i ds pass) in
-    let bound = small (take i ds) front (omega (arith, length-take i ds)) in
+pub one_more : (ds : List ℕ) (i : ℕ) → list_all is_ascii_digit ds ≡ true → i < length ds → OneMore ds i
+one_more ds i all lt =
+    let here = digit (get_or ds i 0) (AllPass-from_list_all is_ascii_digit ds all i 0 lt) in
     let step = digits_value_more 10 ds i lt in
-    record { value = omega arith; least = here.0; greatest = here.1; before = bound }
+    record { value = omega arith; least = here.0; whole = digits_value-take-le 10 ds (i + 1) (omega arith) }

@@ -3,7 +3,7 @@ use denote.Ref.{Bor}
 use Rattle.std.proofs.Common.{◌≡◌, ℕ, ◌+◌, ◌<◌, ◌≤◌, Bool, true, false, eqb, ltb, List, [], ◌∷◌, ◌++◌, length, take, drop, map, All, Option, None, Some, refl, sym, ap, ◌∙◌, append_assoc, append-nil, arith, inl, inr, ◌⊎◌}
 use Rattle.std.specs.List.{position, position_or_len, slice_split, join_with_byte, list_any}
 use Rattle.std.specs.Str.{is_utf8}
-use Rattle.std.proofs.lemmas.Bool.{or_parts, or_from, ltb-true}
+use Rattle.std.proofs.lemmas.Bool.{or_parts, or_from, ltb-true, lt-ltb, lt-leb, le-leb, cases_lt}
 use Rattle.std.proofs.lemmas.List.{length-append, length-map, length-drop, length-take}
 use Rattle.std.proofs.lemmas.List.Elements.{All-nil, All-cons, All-head, All-tail}
 use Rattle.std.proofs.lemmas.List.Folds.{list_any-append}
@@ -11,12 +11,14 @@ use Rattle.std.proofs.lemmas.List.Splits.{slice_split_first, slice_split_none, s
 use Rattle.std.proofs.lemmas.List.Sums.{fails_before_first, sum_by-cons, sum_by-append}
 use Rattle.std.proofs.lemmas.Str.{IsUtf8-from_is_utf8}
 use Rattle.kte_text.specs.Units.{IsLine, is_line_end, utf8_of}
-use Rattle.kte_text.specs.Texts.{units_of, size_of}
+use Rattle.kte_text.specs.Texts.{IsText, units_of, size_of}
+use Rattle.kte_text.specs.declared.TheConstants.{MAX_SIZE}
+use Rattle.kte_script.specs.Limits.{IsPattern}
 use Rattle.kte_text.specs.Reading.{utf16_of}
 use Rattle.kte_text.proofs.CharLemmas.{IsLine-utf16_of, utf8_of-utf16_of}
 use Rattle.kte_text.proofs.Utf8Lemmas.{length-utf8_of, width_bounds}
 use Rattle.kte_script.specs.Ends.{is_end, parts_of, FirstPart}
-use Rattle.kte_script.specs.Strings.{line_in, with_line, lines_in, text_in, utf8_of_text}
+use Rattle.kte_script.specs.Strings.{line_in, with_line, lines_in, small, text_in, some_units, pattern_in, utf8_of_text}
 use Rattle.kte_script.proofs.WordLemmas.{at_position, at_end, found}
 use Rattle.kte_script.proofs.StringLemmas.{line_in-utf8_of, no_ends-utf8}
 
@@ -72,12 +74,19 @@ lines_again (line ∷ lines) all =
     let others = lines_again lines (All-tail IsLine line lines all) in
     rw (first, others) refl
 
+-- lines are a text if they are not too large
+small_lines : (lines : List (List ℕ)) → size_of lines ≤ MAX_SIZE → small (Some lines) ≡ Some lines
+small_lines lines le = rw (le-leb _ _ le) refl
+
+large_lines : (lines : List (List ℕ)) → MAX_SIZE < size_of lines → small (Some lines) ≡ None
+large_lines lines lt = rw (lt-leb _ _ lt) refl
+
 -- a text in UTF-8 is read as itself
-pub text_in-utf8_of_text : (text : List (List ℕ)) → All IsLine text → 0 < length text
-    → text_in (utf8_of_text text) ≡ Some text
+pub text_in-utf8_of_text : (text : List (List ℕ)) → IsText text → text_in (utf8_of_text text) ≡ Some text
 unfolding text_in
-text_in-utf8_of_text text all some =
-    ap lines_in (parts_again text all some) ∙ lines_again text all
+text_in-utf8_of_text text is =
+    ap small (ap lines_in (parts_again text is.whole is.some) ∙ lines_again text is.whole)
+    ∙ small_lines text is.small
 
 -- ---- parts as lines
 
@@ -125,6 +134,24 @@ all_lines lines = Some lines
 lines_same : (a b : List (List ℕ)) → all_lines a ≡ Some b → a ≡ b
 lines_same a b e = cc
 
+abbrev no_lines : Option (List (List ℕ))
+no_lines = None
+
+no_text : (text : List (List ℕ)) → no_lines ≡ Some text → ⊥
+no_text text e = cc
+
+-- a line that is not empty
+units_some : (read : Option (List ℕ)) (units : List ℕ) → some_units read ≡ Some units
+    → (read ≡ Some units) × (0 < length units)
+units_some None units e = absurd cc
+units_some (Some line) units e =
+    elim (decide (ltb 0 (length line))) [
+      | inl some ↦
+          let same : line ≡ units = some_line line units (rw some at e) in
+          (ap (λ (l : List ℕ). Some l) same, rw (← same) (ltb-true _ _ some))
+      | inr none ↦ absurd (none_line units (rw none at e))
+    ]
+
 lines_of_parts : (parts lines : List (List ℕ)) → lines_in parts ≡ Some lines
     → All IsLine lines × (map utf8_of lines ≡ parts)
 lines_of_parts [] lines e = rw (← lines_same [] lines e) (All-nil IsLine, refl)
@@ -134,23 +161,47 @@ lines_of_parts (part ∷ parts) lines e =
     let others = lines_of_parts parts j.others j.then in
     rw (← j.are) (All-cons IsLine j.line j.others first.0 others.0, rw (first.1, others.1) refl)
 
--- the text of bytes is one of lines, and has these bytes
-pub record Holds (bytes : List ℕ) (text : List (List ℕ)) : Type 0 where
-  pub whole : All IsLine text
-  pub some : 0 < length text
-  pub bytes_are : utf8_of_text text ≡ bytes
+small_some : (read : Option (List (List ℕ))) (text : List (List ℕ)) → small read ≡ Some text
+    → (read ≡ Some text) × (size_of text ≤ MAX_SIZE)
+small_some None text e = absurd cc
+small_some (Some lines) text e =
+    elim (cases_lt MAX_SIZE (size_of lines)) [
+      | inl large ↦ absurd (no_text text (rw (large_lines lines large) at e))
+      | inr le ↦
+          let same : lines ≡ text = lines_same lines text (rw (small_lines lines le) at e) in
+          (ap all_lines same, rw (← same) le)
+    ]
+
+-- what bytes hold is a text, and has these bytes
+pub record Holds (bytes : List ℕ) (lines : List (List ℕ)) : Type 0 where
+  pub text : IsText lines
+  pub bytes_are : utf8_of_text lines ≡ bytes
 
 pub text_of_bytes : (bytes : List ℕ) (text : List (List ℕ)) → text_in bytes ≡ Some text → Holds bytes text
 unfolding text_in
 text_of_bytes bytes text e =
-    let l = lines_of_parts (parts_of bytes) text e in
+    let read = small_some (lines_in (parts_of bytes)) text e in
+    let l = lines_of_parts (parts_of bytes) text read.0 in
     let count = length-slice_split is_end bytes in
     let same : length text ≡ length (parts_of bytes) = sym (length-map text utf8_of) ∙ ap length l.1 in
     record {
-      whole = l.0;
-      some = omega (arith, count, same);
+      text = record { whole = l.0; some = omega (arith, count, same); small = read.1 };
       bytes_are = ap (join_with_byte 10) l.1 ∙ join_with_byte-slice_split 10 bytes;
     }
+
+-- a pattern is a line of these bytes, and not empty
+pub pattern_of_bytes : (bytes units : List ℕ) → pattern_in bytes ≡ Some units
+    → IsPattern units × (utf8_of units ≡ bytes)
+unfolding pattern_in
+pattern_of_bytes bytes units e =
+    let read = units_some (line_in bytes) units e in
+    let l = line_of_bytes bytes units read.0 in
+    (record { whole = l.0; some = read.1 }, l.1)
+
+-- .. and is read as itself
+pub pattern_in-utf8_of : (units : List ℕ) → IsPattern units → pattern_in (utf8_of units) ≡ Some units
+unfolding pattern_in
+pattern_in-utf8_of units is = rw (line_in-utf8_of units is.whole, lt-ltb _ _ is.some) refl
 
 -- ---- a text is no larger than its bytes
 
@@ -204,7 +255,7 @@ after_lines front (Some lines) = Some (front ++ lines)
 -- the lines that are left
 abbrev pub lines_left : Option (Bor (List ℕ)) → Option (List (List ℕ))
 lines_left None = Some []
-lines_left (Some rest) = text_in rest.now
+lines_left (Some rest) = lines_in (parts_of rest.now)
 
 -- the bytes that are left, with the LF before them
 abbrev pub bytes_left : Option (Bor (List ℕ)) → ℕ
@@ -218,17 +269,13 @@ part_size bytes part (Some rest) first = omega (arith, first.1)
 
 -- the line of the first part, and the lines that are left
 first_lines : (bytes part : List ℕ) (more : Option (Bor (List ℕ))) → FirstPart bytes part more
-    → text_in bytes ≡ with_line (line_in part) (lines_left more)
-unfolding text_in
+    → lines_in (parts_of bytes) ≡ with_line (line_in part) (lines_left more)
 first_lines bytes part None first = ap lines_in first.0
 first_lines bytes part (Some rest) first = ap lines_in first.0
 
-no_lines : (lines : Option (List (List ℕ))) → with_line None lines ≡ None
-no_lines lines = refl
-
 -- the first part is no line
 pub no_first : (bytes part : List ℕ) (more : Option (Bor (List ℕ))) → FirstPart bytes part more
-    → None ≡ line_in part → None ≡ text_in bytes
+    → None ≡ line_in part → None ≡ lines_in (parts_of bytes)
 no_first bytes part more first e =
     sym (first_lines bytes part more first ∙ ap (λ (line : Option (List ℕ)). with_line line (lines_left more)) (sym e))
 
@@ -237,7 +284,7 @@ one_line line None = refl
 one_line line (Some lines) = refl
 
 pub first_read : (bytes part line : List ℕ) (more : Option (Bor (List ℕ))) → FirstPart bytes part more
-    → Some line ≡ line_in part → after_lines (line ∷ []) (lines_left more) ≡ text_in bytes
+    → Some line ≡ line_in part → after_lines (line ∷ []) (lines_left more) ≡ lines_in (parts_of bytes)
 first_read bytes part line more first e =
     sym (first_lines bytes part more first ∙ ap (λ (l : Option (List ℕ)). with_line l (lines_left more)) (sym e)
     ∙ one_line line (lines_left more))
@@ -250,12 +297,12 @@ regroup front line (Some lines) = ap (λ (ls : List (List ℕ)). Some ls) (simp 
 -- the next part is no line
 pub no_next : (front : List (List ℕ)) (rest part : List ℕ) (more : Option (Bor (List ℕ)))
     (total : Option (List (List ℕ))) → FirstPart rest part more → None ≡ line_in part
-    → after_lines front (text_in rest) ≡ total → None ≡ total
+    → after_lines front (lines_in (parts_of rest)) ≡ total → None ≡ total
 no_next front rest part more total first e so_far = ap (after_lines front) (no_first rest part more first e) ∙ so_far
 
 pub next_read : (front : List (List ℕ)) (rest part line : List ℕ) (more : Option (Bor (List ℕ)))
     (total : Option (List (List ℕ))) → FirstPart rest part more → Some line ≡ line_in part
-    → after_lines front (text_in rest) ≡ total → after_lines (front ++ line ∷ []) (lines_left more) ≡ total
+    → after_lines front (lines_in (parts_of rest)) ≡ total → after_lines (front ++ line ∷ []) (lines_left more) ≡ total
 next_read front rest part line more total first e so_far =
     sym (regroup front line (lines_left more)) ∙ ap (after_lines front) (first_read rest part line more first e) ∙ so_far
 
@@ -274,3 +321,30 @@ size_more text line some =
 
 pub size_one : (line : List ℕ) → size_of (line ∷ []) ≡ length line
 size_one line = omega (arith, sum_by-cons length line [])
+
+-- ---- the text of all lines
+
+pub no_lines-text : (bytes : List ℕ) → None ≡ lines_in (parts_of bytes) → None ≡ text_in bytes
+unfolding text_in
+no_lines-text bytes e = ap small e
+
+pub lines-text : (bytes : List ℕ) (lines : List (List ℕ)) → Some lines ≡ lines_in (parts_of bytes)
+    → size_of lines ≤ MAX_SIZE → Some lines ≡ text_in bytes
+unfolding text_in
+lines-text bytes lines e le = sym (small_lines lines le) ∙ ap small e
+
+size_longer : (front others : List (List ℕ)) → 0 < length front → size_of front ≤ size_of (front ++ others)
+size_longer front others some =
+    let units = sum_by-append length front others in
+    omega (arith, units, length-append front others)
+
+too_large : (front : List (List ℕ)) (more : Option (List (List ℕ))) → 0 < length front
+    → MAX_SIZE < size_of front → None ≡ small (after_lines front more)
+too_large front None some lt = refl
+too_large front (Some others) some lt = sym (large_lines (front ++ others) (omega (arith, lt, size_longer front others some)))
+
+-- the lines that were read are too large already
+pub too_large-text : (bytes : List ℕ) (front : List (List ℕ)) (more : Option (List (List ℕ))) → 0 < length front
+    → MAX_SIZE < size_of front → after_lines front more ≡ lines_in (parts_of bytes) → None ≡ text_in bytes
+unfolding text_in
+too_large-text bytes front more some lt so_far = too_large front more some lt ∙ ap small so_far

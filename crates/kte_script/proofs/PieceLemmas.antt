@@ -5,12 +5,13 @@ use Rattle.std.specs.Char.{is_ascii_digit}
 use Rattle.std.proofs.lemmas.Bool.{eqb-true}
 use Rattle.std.proofs.lemmas.Bool.Decides.{nat_tests}
 use Rattle.std.proofs.lemmas.List.{length-append}
+use Rattle.kte_text.specs.Units.{utf8_of}
 use Rattle.kte_script.specs.Words.{ends_here}
-use Rattle.kte_script.specs.Strings.{Mode, Plain, Escape, Code, Digit, Quoted, hex_value, hex_digit, is_coded, is_plain, with_byte, string_from, string_at, text_in, utf8_of_text}
+use Rattle.kte_script.specs.Strings.{Mode, Plain, Escape, Code, Digit, Quoted, hex_value, hex_digit, is_coded, is_plain, with_byte, string_from, string_at, text_in, pattern_in, utf8_of_text}
 use Rattle.kte_script.specs.Fields.{Reading, quoted, held}
-use Rattle.kte_script.specs.InWords.{MaySpell, MaySpellAll, IsQuoted, starts_otherwise}
+use Rattle.kte_script.specs.InWords.{MaySpell, MaySpellAll, IsString, IsQuoted, IsQuotedPattern, starts_otherwise}
 use Rattle.kte_script.proofs.StringLemmas.{first_plain}
-use Rattle.kte_script.proofs.PartLemmas.{text_in-utf8_of_text, text_of_bytes}
+use Rattle.kte_script.proofs.PartLemmas.{text_in-utf8_of_text, text_of_bytes, pattern_in-utf8_of, pattern_of_bytes}
 use Rattle.kte_script.proofs.QuotedLemmas.{code_again}
 use Rattle.kte_script.proofs.ReadsLemmas.{Front, done_same}
 
@@ -303,76 +304,105 @@ string_at_mark (byte ∷ bytes) q e =
       | inr other ↦ no_quoted q (rw other at e)
     ]
 
-abbrev failed : ℕ → Reading (List (List ℕ))
+abbrev failed : {A : Type 0} → ℕ → Reading A
 failed n = Err n
 
-wrong : (left : ℕ) (found : List (List ℕ) × List ℕ) → failed left ≡ Ok found → ⊥
+wrong : {A : Type 0} (left : ℕ) (found : A × List ℕ) → failed left ≡ Ok found → ⊥
 wrong left found e = cc
 
-same_left : (m n : ℕ) → failed m ≡ failed n → n ≡ m
+same_left : {A : Type 0} (m n : ℕ) → failed {A = A} m ≡ failed n → n ≡ m
 same_left m n e = cc
 
-held_some : (o : Option (List (List ℕ))) (after s : List ℕ) (text : List (List ℕ)) (rest : List ℕ)
-    → held o after s ≡ Ok (text, rest) → (o ≡ Some text) × (after ≡ rest) × (ends_here after ≡ true)
-held_some None after s text rest e = absurd cc
-held_some (Some x) after s text rest e =
+held_some : {A : Type 0} (o : Option A) (after s : List ℕ) (value : A) (rest : List ℕ)
+    → held o after s ≡ Ok (value, rest) → (o ≡ Some value) × (after ≡ rest) × (ends_here after ≡ true)
+held_some None after s value rest e = absurd cc
+held_some {A} (Some x) after s value rest e =
     elim (decide (ends_here after)) [
       | inl ends ↦
-          let p : (x, after) ≡ (text, rest) = done_same {A = List (List ℕ) × List ℕ} (x, after) (text, rest) (rw ends at e) in
-          (ap (λ (q : List (List ℕ) × List ℕ). Some q.0) p, ap (λ (q : List (List ℕ) × List ℕ). q.1) p, ends)
-      | inr other ↦ absurd (wrong (length s) (text, rest) (rw other at e))
+          let p : (x, after) ≡ (value, rest) = done_same {A = A × List ℕ} (x, after) (value, rest) (rw ends at e) in
+          (ap (λ (q : A × List ℕ). Some q.0) p, ap (λ (q : A × List ℕ). q.1) p, ends)
+      | inr other ↦ absurd (wrong {A = A} (length s) (value, rest) (rw other at e))
     ]
 
-quoted_some : (o : Option Quoted) (s : List ℕ) (text : List (List ℕ)) (rest : List ℕ) → quoted o s ≡ Ok (text, rest)
-    → (q : Quoted) × (o ≡ Some q) × (held (text_in q.text) q.rest s ≡ Ok (text, rest))
-quoted_some None s text rest e = absurd cc
-quoted_some (Some q) s text rest e = (q, refl, e)
+quoted_some : {A : Type 0} (meaning : List ℕ → Option A) (o : Option Quoted) (s : List ℕ) (value : A) (rest : List ℕ)
+    → quoted meaning o s ≡ Ok (value, rest)
+    → (q : Quoted) × (o ≡ Some q) × (held (meaning q.text) q.rest s ≡ Ok (value, rest))
+quoted_some meaning None s value rest e = absurd cc
+quoted_some meaning (Some q) s value rest e = (q, refl, e)
 
-held_none : (o : Option (List (List ℕ))) (after s : List ℕ) (left : ℕ) → held o after s ≡ Err left → left ≡ length s
-held_none None after s left e = cc
-held_none (Some x) after s left e =
+held_none : {A : Type 0} (o : Option A) (after s : List ℕ) (left : ℕ) → held o after s ≡ Err left → left ≡ length s
+held_none {A} None after s left e = same_left {A = A} (length s) left e
+held_none {A} (Some x) after s left e =
     elim (decide (ends_here after)) [
-      | inl ends ↦ absurd (wrong left (x, after) (sym (rw ends at e)))
-      | inr other ↦ same_left (length s) left (rw other at e)
+      | inl ends ↦ absurd (wrong {A = A} left (x, after) (sym (rw ends at e)))
+      | inr other ↦ same_left {A = A} (length s) left (rw other at e)
     ]
 
-quoted_none : (o : Option Quoted) (s : List ℕ) (left : ℕ) → quoted o s ≡ Err left → left ≡ length s
-quoted_none None s left e = cc
-quoted_none (Some q) s left e = held_none (text_in q.text) q.rest s left e
+quoted_none : {A : Type 0} (meaning : List ℕ → Option A) (o : Option Quoted) (s : List ℕ) (left : ℕ)
+    → quoted meaning o s ≡ Err left → left ≡ length s
+quoted_none {A} meaning None s left e = same_left {A = A} (length s) left e
+quoted_none meaning (Some q) s left e = held_none (meaning q.text) q.rest s left e
 
-quoted_takes : (s : List ℕ) (text : List (List ℕ)) (rest : List ℕ) → quoted (string_at s) s ≡ Ok (text, rest)
-    → (w : List ℕ) × (s ≡ w ++ rest) × IsQuoted text w × (ends_here rest ≡ true)
-quoted_takes s text rest e =
-    let q = quoted_some (string_at s) s text rest e in
-    let h = held_some (text_in q.0.text) q.0.rest s text rest q.2 in
+-- what a string of these bytes is, if it has a value
+pub record Quotes {A : Type 0} (Is : A → List ℕ → Type 0) (meaning : List ℕ → Option A) : Type 0 where
+  pub sound : (bytes : List ℕ) (value : A) (word : List ℕ) → meaning bytes ≡ Some value → IsString bytes word → Is value word
+  pub full : (value : A) (word : List ℕ) → Is value word
+      → (bytes : List ℕ) × IsString bytes word × (meaning bytes ≡ Some value)
+
+quoted_takes : {A : Type 0} (Is : A → List ℕ → Type 0) (meaning : List ℕ → Option A) → Quotes Is meaning
+    → (s : List ℕ) (value : A) (rest : List ℕ) → quoted meaning (string_at s) s ≡ Ok (value, rest)
+    → (w : List ℕ) × (s ≡ w ++ rest) × Is value w × (ends_here rest ≡ true)
+quoted_takes Is meaning quotes s value rest e =
+    let q = quoted_some meaning (string_at s) s value rest e in
+    let h = held_some (meaning q.0.text) q.0.rest s value rest q.2 in
     let m = string_at_mark s q.0 q.1 in
     let w = string_sound Plain m.0 q.0 m.2 in
-    let l = text_of_bytes q.0.text text h.0 in
     let parts : s ≡ (34 ∷ (w.inside ++ (34 ∷ []))) ++ rest =
     m.1 ∙ ap (λ (xs : List ℕ). 34 ∷ xs) (w.parts ∙ rw h.1 (sym (append_assoc w.inside (34 ∷ []) rest))) in (
       34 ∷ (w.inside ++ (34 ∷ [])),
       parts,
-      record { whole = l.whole; some = l.some; inside = w.inside; marks = refl; spelled = rw l.bytes_are w.spelled },
+      quotes.sound q.0.text value (34 ∷ (w.inside ++ (34 ∷ []))) h.0 (record { inside = w.inside; marks = refl; spelled = w.spelled }),
       subst (λ (xs : List ℕ). ends_here xs ≡ true) h.1 h.2,
     )
 
-quoted_gives : (text : List (List ℕ)) (w rest : List ℕ) → IsQuoted text w → ends_here rest ≡ true
-    → quoted (string_at (w ++ rest)) (w ++ rest) ≡ Ok (text, rest)
+string_gives : {A : Type 0} (meaning : List ℕ → Option A) (value : A) (bytes w rest : List ℕ) → IsString bytes w
+    → meaning bytes ≡ Some value → ends_here rest ≡ true → quoted meaning (string_at (w ++ rest)) (w ++ rest) ≡ Ok (value, rest)
 unfolding string_at
-quoted_gives text w rest is ends =
+string_gives meaning value bytes w rest is m ends =
     let same : (is.inside ++ 34 ∷ []) ++ rest ≡ is.inside ++ 34 ∷ rest = append_assoc is.inside (34 ∷ []) rest in
-    let read = pieces_read (utf8_of_text text) is.inside rest is.spelled in
-    rw (is.marks, same, read, text_in-utf8_of_text text is.whole is.some, ends) refl
+    let read = pieces_read bytes is.inside rest is.spelled in
+    rw (is.marks, same, read, m, ends) refl
 
-quoted_begins : (text : List (List ℕ)) (w rest : List ℕ) → IsQuoted text w → starts_otherwise (w ++ rest) ≡ true
-quoted_begins text w rest is = rw is.marks refl
+string_begins : (bytes w rest : List ℕ) → IsString bytes w → starts_otherwise (w ++ rest) ≡ true
+string_begins bytes w rest is = rw is.marks refl
 
-pub quoted_front : Front IsQuoted (λ s. quoted (string_at s) s)
-quoted_front = record {
-  takes = λ s text rest e. quoted_takes s text rest e;
-  gives = λ text w rest is ends. quoted_gives text w rest is ends;
-  stops = λ s left e. quoted_none (string_at s) s left e;
-  begins = λ text w rest is. quoted_begins text w rest is;
+pub quoted_front : {A : Type 0} (Is : A → List ℕ → Type 0) (meaning : List ℕ → Option A) → Quotes Is meaning
+    → Front Is (λ s. quoted meaning (string_at s) s)
+quoted_front Is meaning quotes = record {
+  takes = λ s value rest e. quoted_takes Is meaning quotes s value rest e;
+  gives = λ value w rest is ends.
+      let f = quotes.full value w is in
+      string_gives meaning value f.0 w rest f.1 f.2 ends;
+  stops = λ s left e. quoted_none meaning (string_at s) s left e;
+  begins = λ value w rest is.
+      let f = quotes.full value w is in
+      string_begins f.0 w rest f.1;
+}
+
+pub text_quotes : Quotes IsQuoted text_in
+text_quotes = record {
+  sound = λ bytes lines word m is.
+      let h = text_of_bytes bytes lines m in
+      record { text = h.text; string = rw h.bytes_are is };
+  full = λ lines word is. (utf8_of_text lines, is.string, text_in-utf8_of_text lines is.text);
+}
+
+pub pattern_quotes : Quotes IsQuotedPattern pattern_in
+pattern_quotes = record {
+  sound = λ bytes units word m is.
+      let h = pattern_of_bytes bytes units m in
+      record { line = h.0; string = rw h.1 is };
+  full = λ units word is. (utf8_of units, is.string, pattern_in-utf8_of units is.line);
 }
 
 -- ---- what is spelled is no longer than its spelling

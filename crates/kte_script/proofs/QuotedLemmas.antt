@@ -1,14 +1,17 @@
 -- A string that is spelled is read again.
-use Rattle.std.proofs.Common.{◌≡◌, ◌≢◌, ℕ, ◌+◌, ◌*◌, ◌/◌, ◌%◌, ◌≤◌, ◌<◌, Bool, true, false, eqb, leb, ltb, List, [], ◌∷◌, ◌++◌, length, All, Some, Ok, refl, ap, ◌∙◌, append_assoc, arith, inl, inr, ◌⊎◌}
+use Rattle.std.proofs.Common.{◌≡◌, ◌≢◌, ℕ, ◌+◌, ◌*◌, ◌/◌, ◌%◌, ◌≤◌, ◌<◌, Bool, true, false, eqb, leb, ltb, List, [], ◌∷◌, ◌++◌, Option, Some, Ok, refl, ap, ◌∙◌, append_assoc, arith, inl, inr, ◌⊎◌}
 use Rattle.std.specs.List.{flat_map, list_any}
 use Rattle.std.proofs.lemmas.Bool.{cases_lt, lt-ltb, le-ltb, le-leb, eqb-true, or_parts}
 use Rattle.std.proofs.lemmas.Bool.Decides.{nat_tests}
-use Rattle.kte_text.specs.Units.{IsLine}
+use Rattle.std.proofs.lemmas.List.Elements.{All-nil, All-cons}
+use Rattle.kte_text.specs.Units.{IsLine, utf8_of}
+use Rattle.kte_text.specs.Texts.{IsText}
+use Rattle.kte_script.specs.Limits.{IsPattern}
 use Rattle.kte_script.specs.Words.{skip, ends_here}
-use Rattle.kte_script.specs.Strings.{Plain, Code, hex_value, is_coded, with_byte, string_from, string_at, hex_digit, spell_byte, utf8_of_text, spell_text}
-use Rattle.kte_script.specs.Fields.{text_at}
+use Rattle.kte_script.specs.Strings.{Plain, Code, hex_value, is_coded, with_byte, string_from, string_at, hex_digit, spell_byte, utf8_of_text, text_in, pattern_in, spell_text}
+use Rattle.kte_script.specs.Fields.{quoted_at, text_at, pattern_at, spell_pattern}
 use Rattle.kte_script.proofs.AgainLemmas.{skip-one}
-use Rattle.kte_script.proofs.PartLemmas.{is_cr, no_cr-text, text_in-utf8_of_text}
+use Rattle.kte_script.proofs.PartLemmas.{is_cr, no_cr-text, text_in-utf8_of_text, pattern_in-utf8_of}
 
 digit_again : (n : ℕ) → n < 16 → hex_value (hex_digit n) ≡ Some n
 digit_again n h = grind (arith, nat_tests)
@@ -91,11 +94,26 @@ bytes_again (byte ∷ bytes) rest h =
     rw append_assoc (byte_again byte (flat_map spell_byte bytes ++ 34 ∷ rest) (no_cr byte p.0)) in
     first ∙ ap (with_byte byte) (bytes_again bytes rest p.1)
 
-pub text_again : (text : List (List ℕ)) (rest : List ℕ) → All IsLine text → 0 < length text → ends_here rest ≡ true
-    → text_at (spell_text text ++ rest) ≡ Ok (text, rest)
-unfolding text_at spell_text string_at
-text_again text rest whole some e =
-    let inside : List ℕ = flat_map spell_byte (utf8_of_text text) in
+-- what holds no CR, and has a value
+quoted_again : {A : Type 0} (meaning : List ℕ → Option A) (bytes rest : List ℕ) (value : A)
+    → list_any is_cr bytes ≡ false → meaning bytes ≡ Some value → ends_here rest ≡ true
+    → quoted_at meaning ((32 ∷ 34 ∷ flat_map spell_byte bytes ++ 34 ∷ []) ++ rest) ≡ Ok (value, rest)
+unfolding string_at
+quoted_again meaning bytes rest value none m e =
+    let inside : List ℕ = flat_map spell_byte bytes in
     let same : (inside ++ 34 ∷ []) ++ rest ≡ inside ++ 34 ∷ rest = simp append_assoc in
     let from : skip (32 ∷ 34 ∷ inside ++ 34 ∷ rest) ≡ 34 ∷ inside ++ 34 ∷ rest = skip-one 34 (inside ++ 34 ∷ rest) refl in
-    rw (same, from, bytes_again (utf8_of_text text) rest (no_cr-text text whole), text_in-utf8_of_text text whole some, e) refl
+    rw (same, from, bytes_again bytes rest none, m, e) refl
+
+pub text_again : (text : List (List ℕ)) (rest : List ℕ) → IsText text → ends_here rest ≡ true
+    → text_at (spell_text text ++ rest) ≡ Ok (text, rest)
+unfolding text_at spell_text
+text_again text rest is e =
+    quoted_again text_in (utf8_of_text text) rest text (no_cr-text text is.whole) (text_in-utf8_of_text text is) e
+
+pub pattern_again : (units rest : List ℕ) → IsPattern units → ends_here rest ≡ true
+    → pattern_at (spell_pattern units ++ rest) ≡ Ok (units, rest)
+unfolding pattern_at spell_text
+pattern_again units rest is e =
+    let whole = All-cons IsLine units [] is.whole (All-nil IsLine) in
+    quoted_again pattern_in (utf8_of units) rest units (no_cr-text (units ∷ []) whole) (pattern_in-utf8_of units is) e

@@ -4,7 +4,7 @@ use Rattle.std.specs.List.{position_or_len, list_all}
 use Rattle.std.proofs.lemmas.List.{take-append-drop}
 use Rattle.std.proofs.lemmas.Bool.{and_parts}
 use Rattle.kte_script.specs.Words.{is_space, is_other, skip, word, behind, ends_here}
-use Rattle.kte_script.specs.Fields.{Reading, ◌>>=◌, meant}
+use Rattle.kte_script.specs.Fields.{Reading, ◌>>=◌, meant, word_at}
 use Rattle.kte_script.specs.InWords.{starts_otherwise, Begins, Misfits, Then, ThenFails}
 use Rattle.kte_script.proofs.AgainLemmas.{IsWord, word-of, behind-of}
 
@@ -148,9 +148,28 @@ meant_none : {A : Type 0} (o : Option A) (s : List ℕ) (left : ℕ) → meant o
 meant_none None s left e = cc
 meant_none (Some x) s left e = absurd cc
 
+-- a word that was taken has this value
+pub word_found : {A : Type 0} (meaning : List ℕ → Option A) (bytes : List ℕ) (value : A) (rest : List ℕ)
+    → word_at meaning bytes ≡ Ok (value, rest) → meaning (word (skip bytes)) ≡ Some value
+word_found meaning bytes value rest e = (meant_some (meaning (word (skip bytes))) (skip bytes) value rest e).0
+
 starts-word : (w rest : List ℕ) → IsWord w → starts_otherwise (w ++ rest) ≡ true
 starts-word [] rest is = absurd (omega (arith, is.some))
 starts-word (byte ∷ w) rest is = (and_parts (is_other byte) (list_all is_other w) is.whole).0
+
+-- bytes that begin with a word
+pub begun_skip : {Is : List ℕ → Type 0} (bytes rest : List ℕ) (b : Begins Is bytes rest) → IsWord b.word
+    → skip bytes ≡ b.word ++ rest
+begun_skip bytes rest b is =
+    ap skip b.parts ∙ skip-spaces b.spaces (b.word ++ rest) b.only (starts-word b.word rest is)
+
+pub begun_word : {Is : List ℕ → Type 0} (bytes rest : List ℕ) (b : Begins Is bytes rest) → IsWord b.word
+    → word (skip bytes) ≡ b.word
+begun_word bytes rest b is = rw (begun_skip bytes rest b is) (word-of b.word rest is.whole b.ends)
+
+pub begun_behind : {Is : List ℕ → Type 0} (bytes rest : List ℕ) (b : Begins Is bytes rest) → IsWord b.word
+    → behind (skip bytes) ≡ rest
+begun_behind bytes rest b is = rw (begun_skip bytes rest b is) (behind-of b.word rest is.whole b.ends)
 
 pub meaning_front : {A : Type 0} (Is : A → List ℕ → Type 0) (meaning : List ℕ → Option A)
     → ((w : List ℕ) (value : A) → meaning w ≡ Some value → Is value w)

@@ -1,7 +1,12 @@
 -- What is appended, one part after another.
-use Rattle.std.proofs.Common.{◌≡◌, ℕ, ◌+◌, ◌≤◌, ◌<◌, true, map, List, [], ◌∷◌, ◌++◌, length, take, drop, refl, sym, ap, ◌∙◌, append_assoc, append-nil, arith}
+use Rattle.std.proofs.Common.{◌≡◌, ℕ, ◌+◌, ◌≤◌, ◌<◌, true, map, List, [], ◌∷◌, ◌++◌, length, take, drop, get_or, Some, refl, sym, ap, ◌∙◌, append_assoc, append-nil, arith}
 use Rattle.std.specs.List.{flat_map, join_with_byte, list_all}
 use Rattle.std.proofs.lemmas.List.{length-append, length-map, length-take, length-take-le, map_more, take-take, take_all, take_at, drop_at, take-append-drop}
+use Rattle.std.proofs.lemmas.List.{flat_map_more, take_more}
+use Rattle.std.proofs.lemmas.Option.{get_or_from_slice_get}
+use Rattle.std.specs.Prelude.{slice_get}
+use Rattle.kte_place.specs.Ends.{Ends}
+use Rattle.kte_script.specs.Fields.{spell_span, spell_spans, spell_pattern}
 use Rattle.std.proofs.lemmas.Bool.{and_parts}
 use Rattle.std.proofs.lemmas.Grind.{flat_map-append}
 use Rattle.std.proofs.lemmas.Bool.Decides.{nat_tests}
@@ -16,6 +21,10 @@ keeps old s mid new e h =
     let le : length old ≤ length mid = rw e (omega (arith, length-append old s)) in
     let front : take (length old) (take (length mid) new) ≡ take (length old) new = take-take (length old) (length mid) new le in
     sym front ∙ ap (take (length old)) (h ∙ e) ∙ take_at old s (length old) refl
+
+-- one part after another
+pub two_parts : (old s t a b : List ℕ) → a ≡ old ++ s → b ≡ a ++ t → b ≡ old ++ (s ++ t)
+two_parts old s t a b p q = q ∙ ap (λ (xs : List ℕ). xs ++ t) p ∙ append_assoc old s t
 
 -- a word and the fields after it
 pub one_field : (old w f a b : List ℕ) → a ≡ old ++ w → b ≡ a ++ f → b ≡ old ++ (w ++ (f ++ []))
@@ -135,3 +144,23 @@ pub text_closed : (old out new : List ℕ) (text : List (List ℕ)) (n : ℕ) �
 unfolding spell_text
 text_closed old out new text n all is_out is_new =
     is_new ∙ rw (is_out, take_all n text all) (simp append_assoc)
+
+-- a line as a string
+pub pattern_closed : (old a b new line : List ℕ) → a ≡ old ++ 32 ∷ 34 ∷ []
+    → b ≡ a ++ flat_map spell_byte (utf8_of line) → new ≡ b ++ 34 ∷ [] → new ≡ old ++ spell_pattern line
+unfolding spell_text
+pattern_closed old a b new line is_a is_b is_new = is_new ∙ rw (is_b, is_a) (simp append_assoc)
+
+-- one span more
+pub spans_more : (old out new : List ℕ) (spans : List Ends) (n : ℕ) (span : Ends) → slice_get spans n ≡ Some span
+    → n < length spans → out ≡ old ++ spell_spans (take n spans) → new ≡ out ++ spell_span span
+    → new ≡ old ++ spell_spans (take (n + 1) spans)
+spans_more old out new spans n span is lt is_out is_new =
+    let same : get_or spans n span ≡ span = get_or_from_slice_get spans n span span is in
+    let more : take (n + 1) spans ≡ take n spans ++ span ∷ [] = take_more spans n span lt ∙ ap (λ (s : Ends). take n spans ++ s ∷ []) same in
+    is_new ∙ ap (λ (xs : List ℕ). xs ++ spell_span span) is_out ∙ flat_map_more spell_span old (take n spans) span
+    ∙ ap (λ (ss : List Ends). old ++ spell_spans ss) (sym more)
+
+pub spans_all : (old out : List ℕ) (spans : List Ends) (n : ℕ) → length spans ≤ n
+    → out ≡ old ++ spell_spans (take n spans) → out ≡ old ++ spell_spans spans
+spans_all old out spans n all is_out = is_out ∙ ap (λ (ss : List Ends). old ++ spell_spans ss) (take_all n spans all)

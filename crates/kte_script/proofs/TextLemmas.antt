@@ -1,5 +1,5 @@
 -- A spelling is UTF-8, and its line says the command.
-use Rattle.std.proofs.Common.{◌≡◌, ℕ, ◌/◌, ◌%◌, ◌^◌, ◌≤◌, ◌<◌, Bool, true, false, nat_eq, nat_lt, List, [], ◌∷◌, ◌++◌, All, refl, ap, ◌∙◌, append-nil, arith, inl, inr, ◌⊎◌}
+use Rattle.std.proofs.Common.{◌≡◌, ℕ, ◌/◌, ◌%◌, ◌^◌, ◌≤◌, ◌<◌, Bool, true, false, nat_eq, nat_lt, List, [], ◌∷◌, ◌++◌, All, Option, None, Some, refl, ap, ◌∙◌, append-nil, arith, inl, inr, ◌⊎◌}
 use Rattle.std.specs.Prelude.{codes}
 use Rattle.std.specs.Fmt.{decimal}
 use Rattle.std.specs.List.{flat_map, list_all}
@@ -10,28 +10,30 @@ use Rattle.std.proofs.lemmas.Bool.{and_parts, cases_lt, lt-ltb, le-ltb, ltb-true
 use Rattle.std.proofs.lemmas.Bool.Decides.{nat_tests}
 use Rattle.std.proofs.lemmas.Fmt.{IsAscii-decimal}
 use Rattle.std.proofs.lemmas.Grind.{flat_map-append}
-use Rattle.std.proofs.lemmas.List.Elements.{All-head, All-tail}
+use Rattle.std.proofs.lemmas.List.Elements.{All-nil, All-cons, All-head, All-tail}
 use Rattle.std.proofs.lemmas.Str.{IsUtf8-nil, IsUtf8-append, IsUtf8-from_ascii}
 use Rattle.std.proofs.lemmas.Str.Ascii.{IsAscii-nil, IsAscii-cons}
 use Rattle.kte_text.specs.Units.{IsLine, utf8_of}
 use Rattle.kte_text.proofs.CharLemmas.{Continues, IsMultibyte, encode_shape, scalars-line}
+use Rattle.kte_find.specs.declared.rule.Rule.{Rule}
+use Rattle.kte_find.specs.declared.rule.Rule.TheVariants as rules
 use Rattle.kte_place.specs.declared.place.Place.{Place}
 use Rattle.kte_place.specs.declared.span.Empty.{Empty}
 use Rattle.kte_place.specs.declared.span.Empty.TheVariants.{Allow, Void}
 use Rattle.kte_place.specs.Ends.{Ends}
-use Rattle.kte_place.specs.Place.{IsInReach}
 use Rattle.kte_edit.specs.declared.change.Change.TheVariants as Change
 use Rattle.kte_command.specs.declared.command.Command.{Command}
-use Rattle.kte_command.specs.declared.command.Command.TheVariants.{Edit, Begin, End, Undo, Redo, MakeRange, SetRange, DropRange, ShowRange, Lock, Unlock, Land}
-use Rattle.kte_script.specs.declared.TheConstants.{MAX_DIGITS}
+use Rattle.kte_command.specs.declared.command.Command.TheVariants.{Edit, Begin, End, Undo, Redo, MakeRange, SetRange, DropRange, ShowRange, Lock, Unlock, Land, Check, Sync, Save}
+use Rattle.kte_script.specs.declared.limits.Limits.{Limits}
+use Rattle.kte_script.specs.declared.limits.Limits.TheVariants.{Script}
 use Rattle.kte_script.specs.Words.{skip}
 use Rattle.kte_script.specs.Strings.{hex_digit, spell_byte, utf8_of_text, spell_text}
-use Rattle.kte_script.specs.Fields.{Kind, Number, APlace, ASpan, AText, Expands, Empties, Value, spell_field, spell_number, spell_place, expand_word, empty_word}
+use Rattle.kte_script.specs.Fields.{Count, ALine, AColumn, most, Kind, Number, OrNone, APlace, ASpan, OrInvalid, Spans, AText, APattern, ARule, Expands, Empties, Succeeds, Closes, Value, spell_field, spell_number, spell_or_none, spell_place, spell_span, spell_or_invalid, spell_spans, spell_pattern, spell_rule, expand_word, empty_word, succeeds_word, closes_word}
 use Rattle.kte_script.specs.Table.{Values, filled, spell_fields, spelling}
-use Rattle.kte_script.specs.Limits.{IsSpan, Fits, AllFit, InLimits}
+use Rattle.kte_script.specs.Limits.{IsPlace, IsSpan, IsPattern, IsRule, Fits, AllFit, IsWithin, InLimits, IsScripted}
 use Rattle.kte_script.specs.Script.{Says, is_skipped, meaning}
 use Rattle.kte_script.specs.Spelled.{is_itself}
-use Rattle.kte_script.proofs.AgainLemmas.{skip-word}
+use Rattle.kte_script.proofs.AgainLemmas.{skip-word, limited}
 use Rattle.kte_script.proofs.SpellingLemmas.{all_themselves}
 use Rattle.kte_script.proofs.LineLemmas.{says}
 use Rattle.kte_script.proofs.RoundLemmas.{command_again, listed}
@@ -151,18 +153,46 @@ text_text text all =
 
 -- ---- fields
 
-number_text : (n : ℕ) → n < 10 ^ MAX_DIGITS → IsUtf8 (spell_number n)
-number_text n small = IsUtf8-from_ascii (spell_number n) (IsAscii-cons 32 (decimal n) (omega arith) (IsAscii-decimal n (omega arith)))
+number_text : (limits : Limits) (count : Count) (n : ℕ) → n ≤ most limits count → IsUtf8 (spell_number n)
+number_text limits count n le =
+    let small : n < 2 ^ 64 = omega (arith, (limited limits count).wide) in
+    IsUtf8-from_ascii (spell_number n) (IsAscii-cons 32 (decimal n) (omega arith) (IsAscii-decimal n small))
 
-place_text : (place : Place) → IsInReach place → IsUtf8 (spell_place place)
-place_text place fits =
+or_none_text : (limits : Limits) (count : Count) (n : Option ℕ) → Fits limits (OrNone count) n → IsUtf8 (spell_or_none n)
+or_none_text limits count None fits = low_text (codes " none") refl
+or_none_text limits count (Some n) fits = number_text limits count n fits
+
+place_text : (limits : Limits) (place : Place) → IsPlace limits place → IsUtf8 (spell_place place)
+place_text limits place fits =
     IsUtf8-append (spell_number place.line) (spell_number place.column)
-    (number_text place.line (omega (arith, fits.0))) (number_text place.column (omega (arith, fits.1)))
+    (number_text limits ALine place.line fits.0) (number_text limits AColumn place.column fits.1)
 
-span_text : (span : Ends) → IsSpan span → IsUtf8 (spell_place span.start ++ spell_place span.end)
-span_text span fits =
+span_text : (limits : Limits) (span : Ends) → IsSpan limits span → IsUtf8 (spell_span span)
+span_text limits span fits =
     IsUtf8-append (spell_place span.start) (spell_place span.end)
-    (place_text span.start fits.reach.start) (place_text span.end fits.reach.end)
+    (place_text limits span.start fits.start) (place_text limits span.end fits.end)
+
+or_invalid_text : (limits : Limits) (span : Option Ends) → Fits limits OrInvalid span → IsUtf8 (spell_or_invalid span)
+or_invalid_text limits None fits = low_text (codes " invalid") refl
+or_invalid_text limits (Some span) fits = span_text limits span fits
+
+spans_text : (limits : Limits) (spans : List Ends) → All (IsSpan limits) spans → IsUtf8 (spell_spans spans)
+spans_text limits [] all = IsUtf8-nil
+spans_text limits (span ∷ spans) all =
+    IsUtf8-append (spell_span span) (spell_spans spans)
+    (span_text limits span (All-head (IsSpan limits) span spans all)) (spans_text limits spans (All-tail (IsSpan limits) span spans all))
+
+pattern_text : (units : List ℕ) → IsPattern units → IsUtf8 (spell_pattern units)
+pattern_text units fits = text_text (units ∷ []) (All-cons IsLine units [] fits.whole (All-nil IsLine))
+
+rule_text : (limits : Limits) (rule : Rule) → IsRule limits rule → IsUtf8 (spell_rule rule)
+rule_text limits (rules.Word units) fits =
+    IsUtf8-append (codes " word") (spell_pattern units) (low_text (codes " word") refl) (pattern_text units fits)
+rule_text limits rules.Blanks fits = low_text (codes " blanks") refl
+rule_text limits (rules.Long limit) fits =
+    IsUtf8-append (codes " long") (spell_number limit) (low_text (codes " long") refl) (number_text limits AColumn limit fits)
+rule_text limits rules.Pairs fits = low_text (codes " pairs") refl
+rule_text limits rules.Repeat fits = low_text (codes " repeat") refl
 
 expand_text : (left right : Bool) → IsUtf8 (32 ∷ expand_word left right)
 expand_text false false = low_text (codes " none") refl
@@ -174,18 +204,35 @@ empty_text : (empty : Empty) → IsUtf8 (32 ∷ empty_word empty)
 empty_text Allow = low_text (codes " allow") refl
 empty_text Void = low_text (codes " void") refl
 
-field_text : (kind : Kind) (value : Value kind) → Fits kind value → IsUtf8 (spell_field kind value)
-field_text (Number most) n fits = number_text n fits.1
-field_text APlace place fits = place_text place fits
-field_text ASpan span fits = span_text span fits
-field_text AText text fits = text_text text fits.whole
-field_text Expands expand fits = expand_text expand.left expand.right
-field_text Empties empty fits = empty_text empty
+succeeds_text : (ok : Bool) → IsUtf8 (32 ∷ succeeds_word ok)
+succeeds_text true = low_text (codes " ok") refl
+succeeds_text false = low_text (codes " failed") refl
 
-fields_text : (kinds : List Kind) (values : Values kinds) → AllFit kinds values → IsUtf8 (spell_fields kinds values)
-fields_text [] values fits = IsUtf8-nil
-fields_text (kind ∷ kinds) values fits =
-    IsUtf8-append (spell_field kind values.0) (spell_fields kinds values.1) (field_text kind values.0 fits.0) (fields_text kinds values.1 fits.1)
+closes_text : (closed : Bool) → IsUtf8 (32 ∷ closes_word closed)
+closes_text true = low_text (codes " closed") refl
+closes_text false = low_text (codes " open") refl
+
+field_text : (limits : Limits) (kind : Kind) (value : Value kind) → Fits limits kind value → IsUtf8 (spell_field kind value)
+field_text limits (Number count) n fits = number_text limits count n fits
+field_text limits (OrNone count) n fits = or_none_text limits count n fits
+field_text limits APlace place fits = place_text limits place fits
+field_text limits ASpan span fits = span_text limits span fits
+field_text limits OrInvalid span fits = or_invalid_text limits span fits
+field_text limits Spans spans fits = spans_text limits spans fits
+field_text limits AText text fits = text_text text fits.whole
+field_text limits APattern units fits = pattern_text units fits
+field_text limits ARule rule fits = rule_text limits rule fits
+field_text limits Expands expand fits = expand_text expand.left expand.right
+field_text limits Empties empty fits = empty_text empty
+field_text limits Succeeds ok fits = succeeds_text ok
+field_text limits Closes closed fits = closes_text closed
+
+-- fields are spelled in UTF-8
+pub fields_text : (limits : Limits) (kinds : List Kind) (values : Values kinds) → AllFit limits kinds values
+    → IsUtf8 (spell_fields kinds values)
+fields_text limits [] values fits = IsUtf8-nil
+fields_text limits (kind ∷ kinds) values fits =
+    IsUtf8-append (spell_field kind values.0) (spell_fields kinds values.1) (field_text limits kind values.0 fits.0) (fields_text limits kinds values.1 fits.1)
 
 -- ---- commands
 
@@ -206,6 +253,9 @@ word_text (ShowRange id) = low_text (codes "where") refl
 word_text Lock = low_text (codes "lock") refl
 word_text (Unlock revision) = low_text (codes "unlock") refl
 word_text (Land revision span expand empty) = low_text (codes "land") refl
+word_text (Check rule) = low_text (codes "check") refl
+word_text Sync = low_text (codes "sync") refl
+word_text Save = low_text (codes "save") refl
 
 no_comment : (command : Command) (rest : List ℕ) → is_skipped ((filled command).row.word ++ rest) ≡ false
 no_comment (Edit (Change.Insert place text)) rest = refl
@@ -224,15 +274,18 @@ no_comment (ShowRange id) rest = refl
 no_comment Lock rest = refl
 no_comment (Unlock revision) rest = refl
 no_comment (Land revision span expand empty) rest = refl
+no_comment (Check rule) rest = refl
+no_comment Sync rest = refl
+no_comment Save rest = refl
 
-pub spelling_text : (command : Command) → InLimits command → IsUtf8 (spelling command)
-spelling_text command fits =
+pub spelling_text : (limits : Limits) (command : Command) → IsWithin limits command → IsUtf8 (spelling command)
+spelling_text limits command fits =
     let f = filled command in
-    IsUtf8-append f.row.word (spell_fields f.row.kinds f.values) (word_text command) (fields_text f.row.kinds f.values fits)
+    IsUtf8-append f.row.word (spell_fields f.row.kinds f.values) (word_text command) (fields_text limits f.row.kinds f.values fits)
 
-pub line_again : (command : Command) → InLimits command → meaning (spelling command) ≡ Says command
-line_again command fits =
+pub line_again : (command : Command) → InLimits command → IsScripted command → meaning (spelling command) ≡ Says command
+line_again command fits is =
     let f = filled command in
     let fields = spell_fields f.row.kinds f.values in
     let words : skip (spelling command) ≡ spelling command = skip-word f.row.word fields (listed command).is in
-    says (spelling command) command (spelling_text command fits) (ap is_skipped words ∙ no_comment command fields) (command_again command fits)
+    says (spelling command) command (spelling_text Script command fits) (ap is_skipped words ∙ no_comment command fields) (command_again command fits is)

@@ -1,12 +1,16 @@
 -- Where words begin and end, and what the first of them means.
-use Rattle.std.proofs.Common.{◌≡◌, ℕ, Bool, true, false, cond, ltb, length, ◌≤◌, List, [], take, drop, Option, None, Some, Ok, Err, refl, sym, ap, ◌∙◌, arith}
+use Rattle.std.proofs.Common.{◌≡◌, ℕ, Bool, true, false, cond, ltb, length, ◌≤◌, List, [], take, drop, Option, None, Some, Result, Ok, Err, refl, sym, ap, ◌∙◌, arith}
 use Rattle.std.specs.Prelude.{not, unwrap_or}
+use Rattle.std.specs.Option.{ok_or}
 use Rattle.std.specs.List.{position, position_or_len}
 use Rattle.std.proofs.lemmas.Bool.{ltb-false}
 use Rattle.std.proofs.lemmas.List.Sums.{prefix_len-le-length}
 use Rattle.std.proofs.Math.Seq.{take-length, drop-length}
 use Rattle.kte_script.specs.Words.{is_space, is_other, skip, word, behind}
 use Rattle.kte_script.specs.Fields.{word_at}
+use Rattle.kte_script.specs.Reading.{Moves}
+use Rattle.kte_script.specs.declared.fault.ReadError.{ReadError}
+use Rattle.kte_script.specs.declared.fault.ReadError.TheVariants as errors
 
 -- a value that is there only if a test holds
 pub found : (b : Bool) (n i : ℕ) → cond b (Some n) None ≡ Some i → (b ≡ true) × (n ≡ i)
@@ -75,3 +79,15 @@ pub word_bad : {A : Type 0} (meaning : List ℕ → Option A) (bytes first w : L
 word_bad meaning bytes first w is_first is_w e =
     let there : meaning (word (skip bytes)) ≡ None = rw (← is_first, ← is_w) e in
     rw (there, is_first) refl
+
+-- the first word was taken, and has a value or none
+pub moved : {A : Type 0} (meaning : List ℕ → Option A) (bytes w after : List ℕ) (left : ℕ) (value : Option A)
+    (result : Result A ReadError) → w ≡ word (skip bytes) → left ≡ length (skip bytes)
+    → after ≡ behind (skip bytes) → value ≡ meaning w → result ≡ ok_or value (errors.Misfit left)
+    → Moves result after (word_at meaning bytes)
+moved meaning bytes w after left (Some x) result is_w is_left is_after e is =
+    let there : meaning (word (skip bytes)) ≡ Some x = rw (← is_w) (sym e) in
+    rw (is, there, is_after) refl
+moved meaning bytes w after left None result is_w is_left is_after e is =
+    let there : meaning (word (skip bytes)) ≡ None = rw (← is_w) (sym e) in
+    rw (is, there, is_left) refl

@@ -1,11 +1,13 @@
 -- Strings: text between two quotation marks, with escapes. This project's own form
-use Rattle.std.specs.Prelude.{◌==◌, ℕ, ◌+◌, ◌*◌, ◌-◌, ◌/◌, ◌%◌, Bool, List, [], ◌∷◌, ◌++◌, nat_lt, nat_le, ◌&&◌, ◌||◌, not, map, Option, Some, None, if◌then◌else◌}
+use Rattle.std.specs.Prelude.{◌==◌, ℕ, ◌+◌, ◌*◌, ◌-◌, ◌/◌, ◌%◌, Bool, List, [], ◌∷◌, ◌++◌, length, nat_lt, nat_le, ◌&&◌, ◌||◌, not, map, Option, Some, None, if◌then◌else◌}
 use Rattle.std.specs.Option.{option_and_then}
 use Rattle.std.specs.List.{flat_map, join_with_byte, list_any}
 use Rattle.std.specs.Char.{is_ascii_digit}
 use Rattle.std.specs.Str.{is_utf8}
 use Rattle.kte_text.specs.Units.{utf8_of, is_line_end}
 use Rattle.kte_text.specs.Reading.{utf16_of}
+use Rattle.kte_text.specs.Texts.{size_of}
+use Rattle.kte_text.specs.declared.TheConstants.{MAX_SIZE}
 use Rattle.kte_script.specs.Ends.{parts_of}
 
 -- a byte that stands for itself: no control character but the tab, no quotation mark, no backslash
@@ -83,9 +85,22 @@ abbrev pub lines_in : List (List ℕ) → Option (List (List ℕ))
 lines_in [] = Some []
 lines_in (part ∷ parts) = with_line (line_in part) (lines_in parts)
 
--- the text that a string holds: the lines between its LFs
+-- lines that are not too many and not too long for a text
+abbrev pub small : Option (List (List ℕ)) → Option (List (List ℕ))
+small None = None
+small (Some lines) = if nat_le (size_of lines) MAX_SIZE then Some lines else None
+
+-- the text that a string holds: the lines between its LFs, of at most the greatest size
 unfoldable pub text_in : List ℕ → Option (List (List ℕ))
-text_in bytes = lines_in (parts_of bytes)
+text_in bytes = small (lines_in (parts_of bytes))
+
+abbrev pub some_units : Option (List ℕ) → Option (List ℕ)
+some_units None = None
+some_units (Some line) = if nat_lt 0 (length line) then Some line else None
+
+-- the line that a string holds, if it is one and not empty
+unfoldable pub pattern_in : List ℕ → Option (List ℕ)
+pattern_in bytes = some_units (line_in bytes)
 
 -- ---- spelling
 

@@ -1,27 +1,25 @@
--- The table of commands: a row for each, which reading and spelling both follow. This project's own
+-- Tables, of which reading and spelling both follow the rows, and the table of commands. This project's own
 -- form
 use Rattle.std.specs.Prelude.{ℕ, List, [], ◌∷◌, ◌++◌, codes, Option, Some, None, if◌then◌else◌}
 use Rattle.std.specs.Str.{bytes_eq}
-use Rattle.kte_place.specs.declared.place.TheConstants.{MAX_REACH}
 use Rattle.kte_edit.specs.declared.change.Change.TheVariants as Change
 use Rattle.kte_command.specs.declared.command.Command.{Command}
-use Rattle.kte_command.specs.declared.command.Command.TheVariants.{Edit, Begin, End, Undo, Redo, MakeRange, SetRange, DropRange, ShowRange, Lock, Unlock, Land}
-use Rattle.kte_script.specs.declared.TheConstants.{MAX_ID, MAX_REVISION}
-use Rattle.kte_script.specs.Fields.{Kind, Number, APlace, ASpan, AText, Expands, Empties, Value, spell_field}
+use Rattle.kte_command.specs.declared.command.Command.TheVariants.{Edit, Begin, End, Undo, Redo, MakeRange, SetRange, DropRange, ShowRange, Lock, Unlock, Land, Check, Sync, Save}
+use Rattle.kte_script.specs.Fields.{ALine, Long, Kind, Number, APlace, ASpan, AText, ARule, Expands, Empties, Value, spell_field}
 
 -- a value for each field
 abbrev pub Values : List Kind → Type 0
 Values [] = Unit {0}
 Values (kind ∷ kinds) = Value kind × Values kinds
 
--- A command's word, the kinds of its fields, and the command that their values make
-pub record Row : Type 0 where
+-- The word that a line of a table begins with, the kinds of its fields, and what their values make
+pub record Row (A : Type 0) : Type 0 where
   pub word : List ℕ
   pub kinds : List Kind
-  pub make : Values kinds → Command
+  pub make : Values kinds → A
 
 -- `insert L C STRING`
-abbrev pub insert_row : Row
+abbrev pub insert_row : Row Command
 insert_row = record {
   word = codes "insert";
   kinds = APlace ∷ AText ∷ [];
@@ -29,7 +27,7 @@ insert_row = record {
 }
 
 -- `wrap L C`
-abbrev pub wrap_row : Row
+abbrev pub wrap_row : Row Command
 wrap_row = record {
   word = codes "wrap";
   kinds = APlace ∷ [];
@@ -37,15 +35,15 @@ wrap_row = record {
 }
 
 -- `unwrap L`
-abbrev pub unwrap_row : Row
+abbrev pub unwrap_row : Row Command
 unwrap_row = record {
   word = codes "unwrap";
-  kinds = Number MAX_REACH ∷ [];
+  kinds = Number ALine ∷ [];
   make = λ v. Edit (Change.Unwrap v.0);
 }
 
 -- `remove L C L C`
-abbrev pub remove_row : Row
+abbrev pub remove_row : Row Command
 remove_row = record {
   word = codes "remove";
   kinds = ASpan ∷ [];
@@ -53,7 +51,7 @@ remove_row = record {
 }
 
 -- `replace L C L C STRING`
-abbrev pub replace_row : Row
+abbrev pub replace_row : Row Command
 replace_row = record {
   word = codes "replace";
   kinds = ASpan ∷ AText ∷ [];
@@ -61,7 +59,7 @@ replace_row = record {
 }
 
 -- `begin`
-abbrev pub begin_row : Row
+abbrev pub begin_row : Row Command
 begin_row = record {
   word = codes "begin";
   kinds = [];
@@ -69,7 +67,7 @@ begin_row = record {
 }
 
 -- `end`
-abbrev pub end_row : Row
+abbrev pub end_row : Row Command
 end_row = record {
   word = codes "end";
   kinds = [];
@@ -77,7 +75,7 @@ end_row = record {
 }
 
 -- `undo`
-abbrev pub undo_row : Row
+abbrev pub undo_row : Row Command
 undo_row = record {
   word = codes "undo";
   kinds = [];
@@ -85,7 +83,7 @@ undo_row = record {
 }
 
 -- `redo`
-abbrev pub redo_row : Row
+abbrev pub redo_row : Row Command
 redo_row = record {
   word = codes "redo";
   kinds = [];
@@ -93,7 +91,7 @@ redo_row = record {
 }
 
 -- `range L C L C EXPAND EMPTY`
-abbrev pub range_row : Row
+abbrev pub range_row : Row Command
 range_row = record {
   word = codes "range";
   kinds = ASpan ∷ Expands ∷ Empties ∷ [];
@@ -101,31 +99,31 @@ range_row = record {
 }
 
 -- `setrange ID L C L C`
-abbrev pub setrange_row : Row
+abbrev pub setrange_row : Row Command
 setrange_row = record {
   word = codes "setrange";
-  kinds = Number MAX_ID ∷ ASpan ∷ [];
+  kinds = Number Long ∷ ASpan ∷ [];
   make = λ v. SetRange v.0 v.1.0;
 }
 
 -- `droprange ID`
-abbrev pub droprange_row : Row
+abbrev pub droprange_row : Row Command
 droprange_row = record {
   word = codes "droprange";
-  kinds = Number MAX_ID ∷ [];
+  kinds = Number Long ∷ [];
   make = λ v. DropRange v.0;
 }
 
 -- `where ID`
-abbrev pub where_row : Row
+abbrev pub where_row : Row Command
 where_row = record {
   word = codes "where";
-  kinds = Number MAX_ID ∷ [];
+  kinds = Number Long ∷ [];
   make = λ v. ShowRange v.0;
 }
 
 -- `lock`
-abbrev pub lock_row : Row
+abbrev pub lock_row : Row Command
 lock_row = record {
   word = codes "lock";
   kinds = [];
@@ -133,39 +131,71 @@ lock_row = record {
 }
 
 -- `unlock R`
-abbrev pub unlock_row : Row
+abbrev pub unlock_row : Row Command
 unlock_row = record {
   word = codes "unlock";
-  kinds = Number MAX_REVISION ∷ [];
+  kinds = Number Long ∷ [];
   make = λ v. Unlock v.0;
 }
 
 -- `land R L C L C EXPAND EMPTY`
-abbrev pub land_row : Row
+abbrev pub land_row : Row Command
 land_row = record {
   word = codes "land";
-  kinds = Number MAX_REVISION ∷ ASpan ∷ Expands ∷ Empties ∷ [];
+  kinds = Number Long ∷ ASpan ∷ Expands ∷ Empties ∷ [];
   make = λ v. Land v.0 v.1.0 v.1.1.0 v.1.1.1.0;
 }
 
-abbrev pub table : List Row
-table =
-    insert_row ∷ wrap_row ∷ unwrap_row ∷ remove_row ∷ replace_row ∷ begin_row ∷ end_row ∷ undo_row
-    ∷ redo_row ∷ range_row ∷ setrange_row ∷ droprange_row ∷ where_row ∷ lock_row ∷ unlock_row
-    ∷ land_row ∷ []
+-- `check RULE`
+abbrev pub check_row : Row Command
+check_row = record {
+  word = codes "check";
+  kinds = ARule ∷ [];
+  make = λ v. Check v.0;
+}
+
+-- `sync`
+abbrev pub sync_row : Row Command
+sync_row = record {
+  word = codes "sync";
+  kinds = [];
+  make = λ v. Sync;
+}
+
+-- `save`
+abbrev pub save_row : Row Command
+save_row = record {
+  word = codes "save";
+  kinds = [];
+  make = λ v. Save;
+}
+
+-- the commands about transactions, ranges, revisions and jobs
+abbrev pub other_rows : List (Row Command)
+other_rows =
+    begin_row ∷ end_row ∷ undo_row ∷ redo_row ∷ range_row ∷ setrange_row ∷ droprange_row ∷ where_row
+    ∷ lock_row ∷ unlock_row ∷ land_row ∷ check_row ∷ []
+
+-- the commands that a script may hold
+abbrev pub script_rows : List (Row Command)
+script_rows = insert_row ∷ wrap_row ∷ unwrap_row ∷ remove_row ∷ replace_row ∷ other_rows
+
+-- all commands
+abbrev pub table : List (Row Command)
+table = sync_row ∷ save_row ∷ script_rows
 
 -- the row of a word
-abbrev pub row_in : List Row → List ℕ → Option Row
+abbrev pub row_in : {A : Type 0} → List (Row A) → List ℕ → Option (Row A)
 row_in [] word = None
 row_in (row ∷ rows) word = if bytes_eq word row.word then Some row else row_in rows word
 
--- a row of the table with a value for each of its fields
-pub record Filled : Type 0 where
-  pub row : Row
+-- a row of a table with a value for each of its fields
+pub record Filled (A : Type 0) : Type 0 where
+  pub row : Row A
   pub values : Values row.kinds
 
 -- the row and the values that make a command
-abbrev pub filled : Command → Filled
+abbrev pub filled : Command → Filled Command
 filled (Edit (Change.Insert place text)) =
     record { row = insert_row; values = (place, (text, tt)) }
 filled (Edit (Change.Wrap place)) = record { row = wrap_row; values = (place, tt) }
@@ -186,13 +216,18 @@ filled Lock = record { row = lock_row; values = tt }
 filled (Unlock revision) = record { row = unlock_row; values = (revision, tt) }
 filled (Land revision span expand empty) =
     record { row = land_row; values = (revision, (span, (expand, (empty, tt)))) }
+filled (Check rule) = record { row = check_row; values = (rule, tt) }
+filled Sync = record { row = sync_row; values = tt }
+filled Save = record { row = save_row; values = tt }
 
 abbrev pub spell_fields : (kinds : List Kind) → Values kinds → List ℕ
 spell_fields [] values = []
 spell_fields (kind ∷ kinds) values = spell_field kind values.0 ++ spell_fields kinds values.1
 
+-- the word of a row, and its fields
+abbrev pub spell_filled : {A : Type 0} → Filled A → List ℕ
+spell_filled f = f.row.word ++ spell_fields f.row.kinds f.values
+
 -- the canonical spelling of a command
 abbrev pub spelling : Command → List ℕ
-spelling command =
-    (filled command).row.word
-    ++ spell_fields (filled command).row.kinds (filled command).values
+spelling command = spell_filled (filled command)

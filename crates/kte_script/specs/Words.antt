@@ -3,7 +3,6 @@ use Rattle.std.specs.Prelude.{◌==◌, ℕ, Bool, true, List, [], ◌∷◌, le
 use Rattle.std.specs.List.{position_or_len, list_all}
 use Rattle.std.specs.Char.{is_ascii_digit}
 use Rattle.std.specs.Str.Parse.{digits_value}
-use Rattle.kte_script.specs.declared.TheConstants.{MAX_DIGITS}
 
 -- only the space parts words: a tab belongs to its word
 abbrev pub is_space : ℕ → Bool
@@ -29,12 +28,13 @@ abbrev pub ends_here : List ℕ → Bool
 ends_here [] = true
 ends_here (byte ∷ bytes) = byte == 32
 
--- a number: one to ten decimal digits, of at most this value
-unfoldable pub is_number : ℕ → List ℕ → Bool
-is_number most word =
-    nat_lt 0 (length word) && nat_le (length word) MAX_DIGITS && list_all is_ascii_digit word
+-- a number: at least one decimal digit and at most so many, of at most this value
+unfoldable pub is_number : ℕ → ℕ → List ℕ → Bool
+is_number digits most word =
+    nat_lt 0 (length word) && nat_le (length word) digits && list_all is_ascii_digit word
     && nat_le (digits_value 10 word) most
 
--- the number that a word is, if it is one of at most this value
-unfoldable pub number_of : ℕ → List ℕ → Option ℕ
-number_of most word = if is_number most word then Some (digits_value 10 word) else None
+-- the number that a word is, if it is one of at most so many digits and at most this value
+unfoldable pub number_of : ℕ → ℕ → List ℕ → Option ℕ
+number_of digits most word =
+    if is_number digits most word then Some (digits_value 10 word) else None

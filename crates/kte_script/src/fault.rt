@@ -39,13 +39,13 @@ impl<T: Drop> From<AllocFailed<T>> for ScriptFault {
     }
 }
 
-/// Why a line could not be read.
+/// Why the words of a text could not be read.
 #[derive(Clone, Copy, Debug, PartialEq, Eq, Drop, Error)]
-pub(crate) enum ReadError {
+pub enum ReadError {
     /// A word does not fit or is missing.
     #[error("{left} bytes from the end")]
     Misfit {
-        /// The number of bytes from the word's first byte to the end of the line.
+        /// The number of bytes from the word's first byte to the end of the text.
         left: usize,
     },
     /// Out of memory.

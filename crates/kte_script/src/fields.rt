@@ -1,13 +1,12 @@
 //! The words of a line, and what a word is.
-ghost use Rattle.std.specs.Prelude.{◌≡◌, ◌==◌, ◌≤◌, true, length, IfSome, not};
+ghost use Rattle.std.specs.Prelude.{◌≡◌, ◌==◌, ◌+◌, ◌-◌, ◌*◌, ◌<◌, ◌≤◌, ◌^◌, true, length, IfSome, MatchOption, SomeIff, not};
 ghost use Rattle.std.specs.List.{list_all, position};
 ghost use Rattle.std.specs.Char.{is_ascii_digit};
 ghost use Rattle.std.specs.Str.Parse.{digits_value as value_of};
-ghost use Rattle.kte_script.specs.declared.TheConstants.{MAX_DIGITS};
 ghost use Rattle.kte_script.specs.Words.{skip, word, behind, number_of};
-ghost use Rattle.kte_script.specs.Fields.{expand_of, empty_of};
+ghost use Rattle.kte_script.specs.Fields.{Long, or_none_of, expand_of, empty_of, succeeds_of, closes_of};
 
-use crate::MAX_DIGITS;
+use crate::limits::Limits;
 use kte_place::{Empty, Expand};
 
 /// Returns the bytes from the first word on.
@@ -45,21 +44,29 @@ fn first_space(bytes: &[u8]) -> Option<usize>
     bytes.iter().position(|byte| *byte == b' ')
 }
 
-/// Returns the number that a word is, if it is one of at most this value.
+/// Returns the number that a word is, if it is one of at most so many digits and at most this value.
 #[tactic(auto, unfolding(crate::specs::Words::is_number, crate::specs::Words::number_of))]
-pub(crate) fn number_of(most: u32, word: &[u8]) -> Option<u32>
-    ensures value { result ≡ number_of most word.now }
-    ensures within { IfSome result (λ number. number ≤ most) }
+pub(crate) fn number_of(digits: usize, most: u64, word: &[u8]) -> Option<u64>
+    ensures value { result ≡ number_of digits most word.now }
+    ensures small { IfSome result (λ number. number ≤ most) }
 {
-    if word.is_empty() || word.len() > MAX_DIGITS || !is_digits(word) {
+    if word.is_empty() || word.len() > digits || !is_digits(word) {
         return None;
     }
-    let value = digits_value(word);
-    if value <= u64::from(most) {
-        Some(value as u32)
-    } else {
-        None
+    let value = digits_value(word)?;
+    if value <= most { Some(value) } else { None }
+}
+
+/// Returns the number that a word is, `Some(None)` if it is `none`.
+#[tactic(auto, unfolding(crate::specs::Fields::or_none_of))]
+pub(crate) fn or_none_of(limits: Limits, word: &[u8]) -> Option<Option<u64>>
+    ensures { result ≡ or_none_of limits Long word.now }
+{
+    if word == b"none".as_slice() {
+        return Some(None);
     }
+    let number = number_of(limits.digits(), limits.long(), word)?;
+    Some(Some(number))
 }
 
 fn is_digits(word: &[u8]) -> bool
@@ -68,16 +75,28 @@ fn is_digits(word: &[u8]) -> bool
     word.iter().all(|byte| byte.is_ascii_digit())
 }
 
-fn digits_value(word: &[u8]) -> u64
-    requires digits { list_all is_ascii_digit word.now ≡ true }
-    requires few { length word.now ≤ MAX_DIGITS }
-    ensures { result ≡ value_of 10 word.now }
+/// Returns the value of digits, `None` if it is no number of 64 bits.
+fn digits_value(word: &[u8]) -> Option<u64>
+    requires { list_all is_ascii_digit word.now ≡ true }
+    ensures { MatchOption result (2 ^ 64 ≤ value_of 10 word.now)
+        (λ value. value ≡ value_of 10 word.now) }
 {
     let mut value = 0;
     for byte in word {
-        value = value * 10 + u64::from(*byte - b'0');
+        let Some(more) = with_digit(value, *byte) else {
+            return None;
+        };
+        value = more;
     }
-    value
+    Some(value)
+}
+
+/// Returns a number with one more digit.
+fn with_digit(value: u64, digit: u8) -> Option<u64>
+    requires { 48 ≤ digit }
+    ensures { SomeIff result (value * 10 + (digit - 48) < 2 ^ 64) (value * 10 + (digit - 48)) }
+{
+    value.checked_mul(10)?.checked_add(u64::from(digit - b'0'))
 }
 
 /// Returns how a range expands.
@@ -108,6 +127,34 @@ pub(crate) fn empty_of(word: &[u8]) -> Option<Empty>
         Some(Empty::Allow)
     } else if word == b"void".as_slice() {
         Some(Empty::Void)
+    } else {
+        None
+    }
+}
+
+/// Returns `true` for `ok`, `false` for `failed`.
+#[tactic(auto, unfolding(crate::specs::Fields::succeeds_of))]
+pub(crate) fn succeeds_of(word: &[u8]) -> Option<bool>
+    ensures { result ≡ succeeds_of word.now }
+{
+    if word == b"ok".as_slice() {
+        Some(true)
+    } else if word == b"failed".as_slice() {
+        Some(false)
+    } else {
+        None
+    }
+}
+
+/// Returns `true` for `closed`, `false` for `open`.
+#[tactic(auto, unfolding(crate::specs::Fields::closes_of))]
+pub(crate) fn closes_of(word: &[u8]) -> Option<bool>
+    ensures { result ≡ closes_of word.now }
+{
+    if word == b"closed".as_slice() {
+        Some(true)
+    } else if word == b"open".as_slice() {
+        Some(false)
     } else {
         None
     }

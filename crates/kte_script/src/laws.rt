@@ -1,27 +1,42 @@
 //! Laws of scripts and spellings. Each function does nothing: its contract is the law.
-ghost use Rattle.std.specs.Prelude.{◌≡◌, ◌↔◌, ℕ, Ok, Err, List, ◌∷◌, ◌++◌};
+ghost use Rattle.std.specs.Prelude.{◌≡◌, ◌↔◌, ℕ, true, Ok, Err, List, ◌∷◌, ◌++◌};
 ghost use Rattle.kte_command.specs.declared.command.Command.{Command};
+ghost use Rattle.kte_script.specs.Fields.{Kind};
 ghost use Rattle.kte_script.specs.InWords.{IsCommandLine, IsFaultyLine};
-ghost use Rattle.kte_script.specs.Limits.{InLimits};
-ghost use Rattle.kte_script.specs.Reading.{command_at};
+ghost use Rattle.kte_script.specs.Limits.{AllFit, ArePartedBy, IsWithin, InLimits, IsScripted};
+ghost use Rattle.kte_script.specs.Reading.{read_fields, command_at};
 ghost use Rattle.kte_script.specs.Script.{Says, meaning, script_of};
 ghost use Rattle.kte_script.specs.ScriptInWords.{IsScript, IsBad, HasTooMany};
-ghost use Rattle.kte_script.specs.Table.{spelling};
+ghost use Rattle.kte_script.specs.Table.{Values, spell_fields, spelling};
+ghost use Rattle.kte_script.specs.Words.{ends_here};
+ghost use Rattle.kte_script.specs.declared.limits.Limits.{Limits};
+ghost use Rattle.kte_script.specs.declared.limits.Limits.TheVariants.{Journal};
 ghost use Rattle.kte_script.specs.declared.fault.ScriptFault.TheVariants.{Bad, TooMany};
 
 /// A command within the limits of a script, spelled and read, is itself: a line that is its
-/// spelling says this command.
+/// spelling says this command. So it is with all commands that scripts have a word for.
 pub fn spelled_and_read()
-    ensures words { (command : Command) → InLimits command
+    ensures words { (command : Command) → InLimits command → IsScripted command
         → command_at (spelling command) ≡ Ok command }
-    ensures line { (command : Command) → InLimits command
+    ensures line { (command : Command) → InLimits command → IsScripted command
         → meaning (spelling command) ≡ Says command }
+{}
+
+/// Fields that are spelled and read are themselves: of any kinds, for any table, whatever follows
+/// them. After spans no digit may begin the next word.
+pub fn fields_spelled_and_read()
+    ensures { (limits : Limits) (kinds : List Kind) (values : Values kinds) (rest : List ℕ)
+        → AllFit limits kinds values → ArePartedBy kinds values rest → ends_here rest ≡ true
+        → read_fields limits kinds (spell_fields kinds values ++ rest) ≡ Ok (values, rest) }
 {}
 
 /// No spelling of a command begins with the spelling of another and a space: two spellings that are
 /// each followed by a space and by anything are of one command.
 pub fn one_spelling()
-    ensures { (a b : Command) (after_a after_b : List ℕ) → InLimits a → InLimits b
+    ensures script { (a b : Command) (after_a after_b : List ℕ) → InLimits a → InLimits b
+        → spelling a ++ 32 ∷ after_a ≡ spelling b ++ 32 ∷ after_b → a ≡ b }
+    ensures journal { (a b : Command) (after_a after_b : List ℕ)
+        → IsWithin Journal a → IsWithin Journal b
         → spelling a ++ 32 ∷ after_a ≡ spelling b ++ 32 ∷ after_b → a ≡ b }
 {}
 

@@ -4,10 +4,10 @@ ghost use Rattle.kte_script.specs.declared.TheConstants.{MAX_SCRIPT_LENGTH};
 ghost use Rattle.kte_script.specs.declared.fault.ScriptFault.TheVariants.{Bad};
 ghost use Rattle.kte_script.specs.Script.{without_cr, is_skipped, meaning, Tells, FirstLine};
 
+use crate::commands::read_line;
 use crate::ends::split_end;
 use crate::fault::{ReadError, ScriptFault};
 use crate::fields::skip;
-use crate::words::read_line;
 use kte_command::Command;
 use std::alloc::Global;
 

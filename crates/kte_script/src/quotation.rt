@@ -3,17 +3,17 @@ ghost use Rattle.std.specs.Prelude.{◌≡◌, ◌∷◌, ◌<◌, ◌≤◌, le
 ghost use Rattle.std.specs.List.{position, position_or_len};
 ghost use Rattle.kte_text.specs.declared.TheConstants.{MAX_SIZE};
 ghost use Rattle.kte_script.specs.declared.fault.ReadError.TheVariants.{NoMemory};
-ghost use Rattle.kte_script.specs.Strings.{Plain, Escape, Code, is_plain, hex_value, string_from, line_in, text_in};
+ghost use Rattle.kte_script.specs.Strings.{Plain, Escape, Code, is_plain, hex_value, string_from, line_in, text_in, pattern_in};
 ghost use Rattle.kte_script.specs.Quotation.{Takes, StartsOtherwise};
 
 use crate::ends::split_end;
 use crate::fault::ReadError;
-use kte_text::{Line, LineFault, Text};
+use kte_text::{Line, LineFault, Lines, MAX_SIZE, Text};
 use std::alloc::Global;
 
-/// Returns the text of a string without escapes: the lines between its LFs, if each is one.
+/// Returns the text of a string without escapes: the lines between its LFs, if each is one, and
+/// they are not too large for a text.
 pub(crate) fn text_of(alloc: Global, bytes: &[u8]) -> Result<Option<Text>, ReadError>
-    requires { length bytes.now ≤ MAX_SIZE }
     ensures text { IfOk result (λ text. text ≡ text_in bytes.now) }
     ensures memory { IfErr result (λ error. error ≡ NoMemory) }
 {
@@ -21,6 +21,9 @@ pub(crate) fn text_of(alloc: Global, bytes: &[u8]) -> Result<Option<Text>, ReadE
     let Some(line) = line_of(alloc, first)? else {
         return Ok(None);
     };
+    if line.len() > MAX_SIZE {
+        return Ok(None);
+    }
     let mut text = Text::of(alloc, line)?;
     'lines: loop {
         let Some(rest) = more else {
@@ -30,8 +33,23 @@ pub(crate) fn text_of(alloc: Global, bytes: &[u8]) -> Result<Option<Text>, ReadE
         let Some(line) = line_of(alloc, part)? else {
             return Ok(None);
         };
+        if text.size() + line.len() >= MAX_SIZE {
+            return Ok(None);
+        }
         text.push(line)?;
         more = after;
+    }
+}
+
+/// Returns the line of a string without escapes, if it is one and not empty.
+#[tactic(auto, unfolding(crate::specs::Strings::pattern_in))]
+pub(crate) fn pattern_of(alloc: Global, bytes: &[u8]) -> Result<Option<Line>, ReadError>
+    ensures line { IfOk result (λ line. line ≡ pattern_in bytes.now) }
+    ensures memory { IfErr result (λ error. error ≡ NoMemory) }
+{
+    match line_of(alloc, bytes)? {
+        Some(line) if !line.is_empty() => Ok(Some(line)),
+        _ => Ok(None),
     }
 }
 
@@ -39,7 +57,6 @@ pub(crate) fn text_of(alloc: Global, bytes: &[u8]) -> Result<Option<Text>, ReadE
 #[tactic(auto, unfolding(crate::specs::Strings::line_in))]
 fn line_of(alloc: Global, text: &[u8]) -> Result<Option<Line>, ReadError>
     ensures line { IfOk result (λ line. line ≡ line_in text.now) }
-    ensures short { IfOk result (λ line. IfSome line (λ line. length line ≤ length text.now)) }
     ensures memory { IfErr result (λ error. error ≡ NoMemory) }
 {
     let Ok(text) = simdutf8::basic::from_utf8(text) else {

@@ -1,21 +1,24 @@
 //! The canonical spelling of a command.
-ghost use Rattle.std.specs.Prelude.{◌≡◌, ◌+◌, ◌++◌, ◌<◌, ◌≤◌, take, drop, length, OnOk, OnErr};
-ghost use Rattle.std.specs.Fmt.{decimal};
-ghost use Rattle.std.specs.List.{list_all, flat_map};
-ghost use Rattle.kte_text.specs.Units.{utf8_of};
+ghost use Rattle.std.specs.Prelude.{◌≡◌, ◌↔◌, ℕ, List, ◌++◌, Some, IfOk, OnOk, OnErr, IsTrue};
 ghost use Rattle.kte_edit.specs.declared.change.Change.TheVariants as Change;
-ghost use Rattle.kte_command.specs.declared.command.Command.TheVariants.{Edit, MakeRange, SetRange, DropRange, ShowRange, Unlock, Land};
-ghost use Rattle.kte_script.specs.Strings.{hex_digit, spell_byte, spell_text};
-ghost use Rattle.kte_script.specs.Fields.{spell_number, spell_place, spell_span, spell_expand, spell_empty};
+ghost use Rattle.kte_command.specs.declared.command.Command.TheVariants.{Edit, MakeRange, SetRange, DropRange, ShowRange, Unlock, Land, Check};
+ghost use Rattle.kte_command.specs.declared.command.Command.{Command};
+ghost use Rattle.kte_script.specs.Limits.{BeginsWith};
 ghost use Rattle.kte_script.specs.Table.{spelling};
-ghost use Rattle.kte_script.specs.Spelled.{Keeps, is_itself};
+ghost use Rattle.kte_script.specs.Spelled.{Keeps};
 
-use itoa::Buffer;
+use crate::fault::ReadError;
+use crate::limits::Limits;
+use crate::push::{
+    push_empty, push_expand, push_number, push_place, push_rule, push_span, push_text,
+};
+use crate::words::Words;
 use kte_command::Command;
 use kte_edit::Change;
+use kte_find::Rule;
 use kte_place::{Empty, Expand, Place, Span};
-use kte_text::{Line, Lines, Text, push_utf8};
-use std::alloc::AllocError;
+use kte_text::Text;
+use std::alloc::{AllocError, Global};
 
 /// Appends the canonical spelling of a command: its word and its fields with one space between
 /// them, numbers without zeros in front, the start of a span first. If out of memory, `out` is
@@ -30,6 +33,36 @@ pub fn spell(command: &Command, out: &mut Vec<u8>) -> Result<(), AllocError>
         out.truncate(start);
     }
     spelled
+}
+
+/// Returns the command whose canonical spelling and a space the bytes begin with, and the length of
+/// the spelling, without the space; `None` if there is none. Fails if out of memory.
+pub fn read_spelling(alloc: Global, bytes: &[u8]) -> Result<Option<(Command, u64)>, AllocError>
+    ensures { IfOk result (λ found. (command : Command) (size : ℕ)
+        → (found ≡ Some (command, size)) ↔ BeginsWith bytes.now command size) }
+{
+    let mut words = Words { rest: bytes };
+    let command = match words.command(alloc, Limits::Journal) {
+        Ok(command) => command,
+        Err(ReadError::Misfit { .. }) => return Ok(None),
+        Err(ReadError::NoMemory) => return Err(AllocError),
+    };
+    let mut spelled = Vec::new(alloc);
+    spell(&command, &mut spelled)?;
+    let size = spelled.len();
+    spelled.push(b' ')?;
+    if begins(bytes, &spelled) {
+        Ok(Some((command, size as u64)))
+    } else {
+        Ok(None)
+    }
+}
+
+/// Whether the bytes begin with `front`.
+fn begins(bytes: &[u8], front: &[u8]) -> bool
+    ensures { IsTrue result ↔ ((rest : List ℕ) × (bytes.now ≡ front.now ++ rest)) }
+{
+    bytes.starts_with(front)
 }
 
 fn push_command(out: &mut Vec<u8>, command: &Command) -> Result<(), AllocError>
@@ -58,6 +91,9 @@ fn push_command(out: &mut Vec<u8>, command: &Command) -> Result<(), AllocError>
             expand,
             empty,
         } => push_land(out, *revision, span, *expand, *empty),
+        Command::Check { rule } => push_check(out, rule),
+        Command::Sync => out.extend_from_slice(b"sync"),
+        Command::Save => out.extend_from_slice(b"save"),
     }
 }
 
@@ -199,135 +235,11 @@ fn push_land(
     push_empty(out, empty)
 }
 
-/// Appends a space and a number.
-#[tactic(auto, using(crate::proofs::SpellingLemmas::keeps))]
-fn push_number(out: &mut Vec<u8>, number: u64) -> Result<(), AllocError>
-    ensures ok { OnOk result (out.new.items ≡ out.old.items ++ spell_number number) }
+#[tactic(auto, using(crate::proofs::SpellingLemmas::one_field, crate::proofs::SpellingLemmas::keeps))]
+fn push_check(out: &mut Vec<u8>, rule: &Rule) -> Result<(), AllocError>
+    ensures ok { OnOk result (out.new.items ≡ out.old.items ++ spelling (Check rule.now)) }
     ensures err { OnErr result (Keeps out.old.items out.new.items) }
 {
-    let mut buffer = Buffer::new();
-    out.push(b' ')?;
-    out.extend_from_slice(buffer.format(number).as_bytes())
-}
-
-#[tactic(auto, using(crate::proofs::SpellingLemmas::keeps))]
-fn push_place(out: &mut Vec<u8>, place: Place) -> Result<(), AllocError>
-    ensures ok { OnOk result (out.new.items ≡ out.old.items ++ spell_place place) }
-    ensures err { OnErr result (Keeps out.old.items out.new.items) }
-{
-    push_number(out, u64::from(place.line))?;
-    push_number(out, place.column)
-}
-
-#[tactic(auto, using(crate::proofs::SpellingLemmas::keeps))]
-fn push_span(out: &mut Vec<u8>, span: &Span) -> Result<(), AllocError>
-    ensures ok { OnOk result (out.new.items ≡ out.old.items ++ spell_span span.now) }
-    ensures err { OnErr result (Keeps out.old.items out.new.items) }
-{
-    push_place(out, span.start)?;
-    push_place(out, span.end)
-}
-
-fn push_expand(out: &mut Vec<u8>, expand: Expand) -> Result<(), AllocError>
-    ensures ok { OnOk result (out.new.items ≡ out.old.items ++ spell_expand expand) }
-    ensures err { OnErr result (Keeps out.old.items out.new.items) }
-{
-    out.extend_from_slice(match (expand.left, expand.right) {
-        (false, false) => b" none".as_slice(),
-        (true, false) => b" left".as_slice(),
-        (false, true) => b" right".as_slice(),
-        (true, true) => b" both".as_slice(),
-    })
-}
-
-fn push_empty(out: &mut Vec<u8>, empty: Empty) -> Result<(), AllocError>
-    ensures ok { OnOk result (out.new.items ≡ out.old.items ++ spell_empty empty) }
-    ensures err { OnErr result (Keeps out.old.items out.new.items) }
-{
-    match empty {
-        Empty::Allow => out.extend_from_slice(b" allow"),
-        Empty::Void => out.extend_from_slice(b" void"),
-    }
-}
-
-/// Appends a space and a text as a string.
-fn push_text(out: &mut Vec<u8>, text: &Text) -> Result<(), AllocError>
-    ensures ok { OnOk result (out.new.items ≡ out.old.items ++ spell_text text.now) }
-    ensures err { OnErr result (Keeps out.old.items out.new.items) }
-{
-    let count = text.lines();
-    out.extend_from_slice(b" \"")?;
-    push_line(out, text.get(0))?;
-    for n in 1..count {
-        out.extend_from_slice(b"\\n")?;
-        push_line(out, text.get(u64::from(n)))?;
-    }
-    out.push(b'"')?;
-    Ok(())
-}
-
-/// Appends the spelling of a line in a string.
-fn push_line(out: &mut Vec<u8>, line: &Line) -> Result<(), AllocError>
-    ensures ok { OnOk result (out.new.items
-        ≡ out.old.items ++ flat_map spell_byte (utf8_of line.now)) }
-    ensures err { OnErr result (Keeps out.old.items out.new.items) }
-{
-    let start = out.len();
-    push_utf8(line.units(), out)?;
-    escape(out, start)
-}
-
-/// Replaces the bytes from `start` on by their spelling in a string.
-fn escape(out: &mut Vec<u8>, start: usize) -> Result<(), AllocError>
-    requires { start ≤ length out.old.items }
-    ensures ok { OnOk result (out.new.items
-        ≡ take start out.old.items ++ flat_map spell_byte (drop start out.old.items)) }
-    ensures err { OnErr result (take start out.new.items ≡ take start out.old.items) }
-{
-    if is_itself(&out[start..]) {
-        return Ok(());
-    }
-    let text = out.split_off(start)?;
-    for byte in &text {
-        push_byte(out, *byte)?;
-    }
-    Ok(())
-}
-
-/// Appends the spelling of a byte of a string.
-#[tactic(auto, unfolding(crate::specs::Strings::spell_byte))]
-fn push_byte(out: &mut Vec<u8>, byte: u8) -> Result<(), AllocError>
-    ensures ok { OnOk result (out.new.items ≡ out.old.items ++ spell_byte byte) }
-    ensures err { OnErr result (out.new.items ≡ out.old.items) }
-{
-    match byte {
-        b'\n' => out.extend_from_slice(b"\\n"),
-        b'\t' => out.extend_from_slice(b"\\t"),
-        b'"' => out.extend_from_slice(b"\\\""),
-        b'\\' => out.extend_from_slice(b"\\\\"),
-        0..=31 => {
-            out.extend_from_slice(&[b'\\', b'x', hex_digit(byte / 16), hex_digit(byte % 16)])
-        }
-        _ => out.extend_from_slice(&[byte]),
-    }
-}
-
-fn hex_digit(value: u8) -> u8
-    requires { value < 16 }
-    ensures { result ≡ hex_digit value }
-{
-    if value < 10 {
-        b'0' + value
-    } else {
-        b'a' + (value - 10)
-    }
-}
-
-/// Whether each byte is spelled as itself in a string.
-fn is_itself(bytes: &[u8]) -> bool
-    ensures { result ≡ list_all is_itself bytes.now }
-{
-    bytes
-        .iter()
-        .all(|byte| *byte >= 32 && *byte != b'"' && *byte != b'\\')
+    out.extend_from_slice(b"check")?;
+    push_rule(out, rule)
 }

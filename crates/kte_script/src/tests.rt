@@ -1,4 +1,8 @@
-use crate::{MAX_COMMANDS, Script, ScriptFault, read_script, spell};
+use crate::push::{
+    push_closes, push_number_or_none, push_span_or_invalid, push_spans, push_succeeds,
+};
+use crate::words::Words;
+use crate::{Limits, MAX_COMMANDS, Script, ScriptFault, read_script, read_spelling, spell};
 use kte_command::Command;
 use kte_edit::Change;
 use kte_place::{Place, Span};
@@ -23,7 +27,7 @@ fn spelled(alloc: Global, script: &[u8]) -> Result<String, Fail> {
 #[test]
 fn scripts_are_read(rt: HostRuntime) -> Result<(), Fail> {
     let alloc = rt.alloc();
-    let table: [(&[u8], &str); 25] = [
+    let table: [(&[u8], &str); 28] = [
         (b"", ""),
         (b"\n  \n\r\n# insert 0 0 \"a\n  #", ""),
         (b"insert 0 5 \"!\"", "insert 0 5 \"!\"\n"),
@@ -70,6 +74,18 @@ fn scripts_are_read(rt: HostRuntime) -> Result<(), Fail> {
             "insert 0 0 \"\u{E9} \u{1F600}#\u{7F}\"\n",
         ),
         (b"insert 0 0 \"\\x0a\"", "line 1 column 12"),
+        (
+            b"check word \"a \\t\"\ncheck blanks",
+            "check word \"a \\t\"\ncheck blanks\n",
+        ),
+        (
+            b"check  long 0001073741824\ncheck long 0",
+            "line 1 column 13",
+        ),
+        (
+            b"check  long 0000000080\n check pairs\ncheck repeat ",
+            "check long 80\ncheck pairs\ncheck repeat\n",
+        ),
     ];
     for (script, want) in table {
         let text = spelled(alloc, script)?;
@@ -81,7 +97,7 @@ fn scripts_are_read(rt: HostRuntime) -> Result<(), Fail> {
 #[test]
 fn the_first_fault_is_named(rt: HostRuntime) -> Result<(), Fail> {
     let alloc = rt.alloc();
-    let table: [(&[u8], u64, u64); 69] = [
+    let table: [(&[u8], u64, u64); 82] = [
         (b"lock 0", 1, 6),
         (b"unlock 4294967296", 1, 8),
         (b"land 0 0 0 0 1 none", 1, 20),
@@ -147,6 +163,19 @@ fn the_first_fault_is_named(rt: HostRuntime) -> Result<(), Fail> {
         (b"setrange 1 0 0 0", 1, 17),
         (b"droprange", 1, 10),
         (b"where 1 2", 1, 9),
+        (b"check", 1, 6),
+        (b"check foo", 1, 7),
+        (b"check word", 1, 11),
+        (b"check word a", 1, 12),
+        (b"check word \"\"", 1, 12),
+        (b"check word \"a\\nb\"", 1, 12),
+        (b"check word \"a\" b", 1, 16),
+        (b"check long ", 1, 12),
+        (b"check long 1073741825", 1, 12),
+        (b"check blanks x", 1, 14),
+        (b"check Pairs", 1, 7),
+        (b"sync", 1, 1),
+        (b"lock\n save", 2, 2),
         (b"# \xC3", 1, 3),
         (b"\xEF\xBB\xBFwrap 0 0", 1, 1),
         (b"wrap 0 0\n\nbad \xFF\nbad", 3, 5),
@@ -210,5 +239,98 @@ fn a_script_grows_by_its_commands(rt: HostRuntime) -> Result<(), Fail> {
         out.as_slice(),
         b"remove 0 10 3 18446744073709551615".as_slice()
     );
+    Ok(())
+}
+
+/// Returns the length of the spelling that the bytes begin with.
+fn spelling_len(alloc: Global, bytes: &[u8]) -> Result<Option<u64>, Fail> {
+    Ok(read_spelling(alloc, bytes)?.map(|found| found.1))
+}
+
+#[test]
+fn spellings_are_found(rt: HostRuntime) -> Result<(), Fail> {
+    let alloc = rt.alloc();
+    let table: [(&[u8], Option<u64>); 24] = [
+        (b"", None),
+        (b" ", None),
+        (b"sync ", Some(4)),
+        (b"save = asked", Some(4)),
+        (b"save= asked", None),
+        (b" save = asked", None),
+        (b"check word \"a b\" = posted 0", Some(16)),
+        (b"check word \"\" = posted 0", None),
+        (b"check repeat = posted 0", Some(12)),
+        (b"wrap 1 2  = edited 1 1 0", Some(8)),
+        (b"wrap 1  2 = edited 1 1 0", None),
+        (b"wrap 01 2 = edited 1 1 0", None),
+        (b"wrap 4294967295 18446744073709551615 ", Some(36)),
+        (b"wrap 4294967296 0 ", None),
+        (b"wrap 0 18446744073709551616 ", None),
+        (b"droprange 99999999999999999999 ", None),
+        (b"unlock 000000000000000000000 ", None),
+        (b"remove 0 1 0 2 = ", Some(14)),
+        (b"remove 0 2 0 1 = ", None),
+        (b"insert 0 0 \"\\t\\x00\xC3\xA9\" = ", Some(21)),
+        (b"insert 0 0 \"\t\" = ", None),
+        (b"insert 0 0 \"\\x09\" = ", None),
+        (b"insert 0 0 \"\xC3\" = ", None),
+        (b"sync\n", None),
+    ];
+    for (bytes, want) in table {
+        assert_eq!(rt; spelling_len(alloc, bytes)?, want);
+    }
+    Ok(())
+}
+
+#[test]
+fn a_spelling_that_is_cut_is_none(rt: HostRuntime) -> Result<(), Fail> {
+    let alloc = rt.alloc();
+    let bytes = b"replace 0 10 2 345 \"a\\n\\x1f\xC3\xA9\" ".as_slice();
+    for len in 0..bytes.len() {
+        assert_eq!(rt; spelling_len(alloc, &bytes[..len])?, None);
+    }
+    assert_eq!(rt; spelling_len(alloc, bytes)?, Some(30));
+    Ok(())
+}
+
+/// Reads the fields of a journal in these bytes, and returns what follows them and their spelling.
+fn spelled_fields(alloc: Global, bytes: &[u8]) -> Result<(String, String), Fail> {
+    let mut words = Words { rest: bytes };
+    let spans = words.spans(alloc, Limits::Journal)?;
+    let number = words.long_or_none(Limits::Journal)?;
+    let span = words.span_or_invalid(Limits::Journal)?;
+    let ok = words.succeeds()?;
+    let closed = words.closes()?;
+    let mut out = Vec::new(alloc);
+    push_spans(&mut out, &spans)?;
+    push_number_or_none(&mut out, number)?;
+    push_span_or_invalid(&mut out, &span)?;
+    push_succeeds(&mut out, ok)?;
+    push_closes(&mut out, closed)?;
+    let rest = String::from_utf8(words.rest.to_vec(alloc)?)?;
+    Ok((rest, String::from_utf8(out)?))
+}
+
+#[test]
+fn fields_of_a_journal_are_read(rt: HostRuntime) -> Result<(), Fail> {
+    let alloc = rt.alloc();
+    let table: [(&[u8], &str, &str); 3] = [
+        (
+            b" 1 2 3 4 5 6 7 8 none invalid ok closed = 1",
+            " = 1",
+            " 1 2 3 4 5 6 7 8 none invalid ok closed",
+        ),
+        (b"none 1 0 0 9 failed open", "", " none 0 9 1 0 failed open"),
+        (
+            b" 0 0 0 1  none 4294967295 0 4294967295 1 ok open ",
+            " ",
+            " 0 0 0 1 none 4294967295 0 4294967295 1 ok open",
+        ),
+    ];
+    for (bytes, rest, want) in table {
+        let fields = spelled_fields(alloc, bytes)?;
+        assert_eq!(rt; fields.0.as_str(), rest);
+        assert_eq!(rt; fields.1.as_str(), want);
+    }
     Ok(())
 }

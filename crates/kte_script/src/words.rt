@@ -1,92 +1,49 @@
-//! What is left of a line, from which fields and commands are taken.
-ghost use Rattle.std.specs.Prelude.{◌≡◌, ◌≤◌, length};
-ghost use Rattle.kte_text.specs.declared.TheConstants.{MAX_SIZE};
-ghost use Rattle.kte_script.specs.Words.{ends_here};
-ghost use Rattle.kte_script.specs.Fields.{number_at, place_at, span_at, text_at, held, expand_at, empty_at};
-ghost use Rattle.kte_script.specs.Table.{insert_row, wrap_row, unwrap_row, remove_row, replace_row, begin_row, end_row, undo_row, redo_row, range_row, setrange_row, droprange_row, where_row, lock_row, unlock_row, land_row};
-ghost use Rattle.kte_script.specs.Reading.{Gives, Moves, row_at, front_at, end_at, command_at};
+//! What is left of a text, from which words and fields are taken one after another.
+//!
+//! Words are parted by spaces alone. A call that fails names the first word that does not fit, and
+//! may have moved to it or past it.
+ghost use Rattle.std.specs.Prelude.{◌≡◌, ◌==◌, ◌≤◌, length, IfOk};
+ghost use Rattle.kte_script.specs.Words.{skip, word, behind, ends_here, number_of};
+ghost use Rattle.kte_script.specs.Fields.{ALine, AColumn, Short, Long, word_at, number_at, or_none_at, place_at, span_at, or_invalid_at, spans_at, starts_number, text_at, pattern_at, held, rule_at, expand_at, empty_at, succeeds_at, closes_at};
+ghost use Rattle.kte_script.specs.Reading.{Gives, Moves, end_at};
 
 use crate::fault::ReadError;
-use crate::fields::{empty_of, expand_of, number_of, skip, split_word};
-use crate::quotation::{plain_string, string, text_of};
-use crate::{MAX_ID, MAX_REVISION};
-use kte_command::Command;
-use kte_edit::Change;
-use kte_place::{Empty, Expand, MAX_REACH, Place, Span};
-use kte_text::Text;
+use crate::fields;
+use crate::limits::Limits;
+use crate::quotation::{pattern_of, plain_string, string, text_of};
+use kte_find::Rule;
+use kte_place::{Empty, Expand, Place, Span, Spans};
+use kte_text::{Line, Text};
 use std::alloc::Global;
 
-/// Returns the command that is all of a line.
-#[tactic(auto, unfolding(crate::specs::Reading::command_at))]
-pub(crate) fn read_line(alloc: Global, line: &[u8]) -> Result<Command, ReadError>
-    requires { length line.now ≤ MAX_SIZE }
-    ensures { Gives (λ command. command) result (command_at line.now) }
-{
-    let mut words = Words { rest: line };
-    let command = words.command(alloc)?;
-    words.finish()?;
-    Ok(command)
-}
-
-/// What is left of a line. A call that fails may have moved to the word at fault.
+/// What is left of a text.
 #[derive(Drop)]
-struct Words<'a> {
-    rest: &'a [u8],
+pub struct Words<'a> {
+    /// The bytes that are left.
+    pub rest: &'a [u8],
 }
 
 impl<'a> Words<'a> {
-    /// Takes a command.
-    #[tactic(auto, unfolding(crate::specs::Reading::front_at))]
-    fn command(&mut self, alloc: Global) -> Result<Command, ReadError>
-        requires { length self.old.rest.now ≤ MAX_SIZE }
-        ensures { Moves result self.new.rest.now (front_at self.old.rest.now) }
+    /// Takes the next word, and returns it with the number of bytes that were left from it on. The
+    /// word is empty if there is none.
+    pub fn word(&mut self) -> (&'a [u8], usize)
+        ensures word { result.0.now ≡ word (skip self.old.rest.now) }
+        ensures left { result.1 ≡ length (skip self.old.rest.now) }
+        ensures behind { self.new.rest.now ≡ behind (skip self.old.rest.now) }
+        ensures within { length self.new.rest.now ≤ length self.old.rest.now }
     {
-        let bytes = skip(self.rest);
-        let (word, rest) = split_word(bytes);
+        let bytes = fields::skip(self.rest);
+        let (word, rest) = fields::split_word(bytes);
         self.rest = rest;
-        if word == b"insert".as_slice() {
-            self.insert(alloc)
-        } else if word == b"wrap".as_slice() {
-            self.wrap()
-        } else if word == b"unwrap".as_slice() {
-            self.unwrap()
-        } else if word == b"remove".as_slice() {
-            self.remove()
-        } else if word == b"replace".as_slice() {
-            self.replace(alloc)
-        } else if word == b"begin".as_slice() {
-            self.begin()
-        } else if word == b"end".as_slice() {
-            self.end()
-        } else if word == b"undo".as_slice() {
-            self.undo()
-        } else if word == b"redo".as_slice() {
-            self.redo()
-        } else if word == b"range".as_slice() {
-            self.range()
-        } else if word == b"setrange".as_slice() {
-            self.setrange()
-        } else if word == b"droprange".as_slice() {
-            self.droprange()
-        } else if word == b"where".as_slice() {
-            self.show()
-        } else if word == b"lock".as_slice() {
-            self.lock()
-        } else if word == b"unlock".as_slice() {
-            self.unlock()
-        } else if word == b"land".as_slice() {
-            self.land()
-        } else {
-            Err(ReadError::Misfit { left: bytes.len() })
-        }
+        (word, bytes.len())
     }
 
     /// Fails if there is a further word.
     #[tactic(auto, unfolding(crate::specs::Reading::end_at))]
-    fn finish(&self) -> Result<(), ReadError>
+    pub fn finish(&self) -> Result<(), ReadError>
         ensures { Gives (λ _. tt) result (end_at self.now.rest.now) }
     {
-        let bytes = skip(self.rest);
+        let bytes = fields::skip(self.rest);
         if bytes.is_empty() {
             Ok(())
         } else {
@@ -94,241 +51,186 @@ impl<'a> Words<'a> {
         }
     }
 
-    #[tactic(auto, unfolding(crate::specs::Reading::row_at))]
-    fn insert(&mut self, alloc: Global) -> Result<Command, ReadError>
-        requires { length self.old.rest.now ≤ MAX_SIZE }
-        ensures { Moves result self.new.rest.now (row_at insert_row self.old.rest.now) }
-    {
-        let at = self.place()?;
-        let text = self.text(alloc)?;
-        Ok(Command::Edit {
-            change: Change::Insert { at, text },
-        })
-    }
-
-    #[tactic(auto, unfolding(crate::specs::Reading::row_at))]
-    fn wrap(&mut self) -> Result<Command, ReadError>
-        ensures { Moves result self.new.rest.now (row_at wrap_row self.old.rest.now) }
-    {
-        let at = self.place()?;
-        Ok(Command::Edit {
-            change: Change::Wrap { at },
-        })
-    }
-
-    #[tactic(auto, unfolding(crate::specs::Reading::row_at))]
-    fn unwrap(&mut self) -> Result<Command, ReadError>
-        ensures { Moves result self.new.rest.now (row_at unwrap_row self.old.rest.now) }
-    {
-        let line = self.number(MAX_REACH as u32)?;
-        Ok(Command::Edit {
-            change: Change::Unwrap { line },
-        })
-    }
-
-    #[tactic(auto, unfolding(crate::specs::Reading::row_at))]
-    fn remove(&mut self) -> Result<Command, ReadError>
-        ensures { Moves result self.new.rest.now (row_at remove_row self.old.rest.now) }
-    {
-        let span = self.span()?;
-        Ok(Command::Edit {
-            change: Change::Remove { span },
-        })
-    }
-
-    #[tactic(auto, unfolding(crate::specs::Reading::row_at))]
-    fn replace(&mut self, alloc: Global) -> Result<Command, ReadError>
-        requires { length self.old.rest.now ≤ MAX_SIZE }
-        ensures { Moves result self.new.rest.now (row_at replace_row self.old.rest.now) }
-    {
-        let span = self.span()?;
-        let text = self.text(alloc)?;
-        Ok(Command::Edit {
-            change: Change::Replace { span, text },
-        })
-    }
-
-    #[tactic(auto, unfolding(crate::specs::Reading::row_at))]
-    fn begin(&mut self) -> Result<Command, ReadError>
-        ensures { Moves result self.new.rest.now (row_at begin_row self.old.rest.now) }
-    {
-        Ok(Command::Begin)
-    }
-
-    #[tactic(auto, unfolding(crate::specs::Reading::row_at))]
-    fn end(&mut self) -> Result<Command, ReadError>
-        ensures { Moves result self.new.rest.now (row_at end_row self.old.rest.now) }
-    {
-        Ok(Command::End)
-    }
-
-    #[tactic(auto, unfolding(crate::specs::Reading::row_at))]
-    fn undo(&mut self) -> Result<Command, ReadError>
-        ensures { Moves result self.new.rest.now (row_at undo_row self.old.rest.now) }
-    {
-        Ok(Command::Undo)
-    }
-
-    #[tactic(auto, unfolding(crate::specs::Reading::row_at))]
-    fn redo(&mut self) -> Result<Command, ReadError>
-        ensures { Moves result self.new.rest.now (row_at redo_row self.old.rest.now) }
-    {
-        Ok(Command::Redo)
-    }
-
-    #[tactic(auto, unfolding(crate::specs::Reading::row_at))]
-    fn range(&mut self) -> Result<Command, ReadError>
-        ensures { Moves result self.new.rest.now (row_at range_row self.old.rest.now) }
-    {
-        let span = self.span()?;
-        let expand = self.expand()?;
-        let empty = self.empty()?;
-        Ok(Command::MakeRange {
-            span,
-            expand,
-            empty,
-        })
-    }
-
-    #[tactic(auto, unfolding(crate::specs::Reading::row_at))]
-    fn setrange(&mut self) -> Result<Command, ReadError>
-        ensures { Moves result self.new.rest.now (row_at setrange_row self.old.rest.now) }
-    {
-        let id = self.id()?;
-        let span = self.span()?;
-        Ok(Command::SetRange { id, span })
-    }
-
-    #[tactic(auto, unfolding(crate::specs::Reading::row_at))]
-    fn droprange(&mut self) -> Result<Command, ReadError>
-        ensures { Moves result self.new.rest.now (row_at droprange_row self.old.rest.now) }
-    {
-        let id = self.id()?;
-        Ok(Command::DropRange { id })
-    }
-
-    #[tactic(auto, unfolding(crate::specs::Reading::row_at))]
-    fn show(&mut self) -> Result<Command, ReadError>
-        ensures { Moves result self.new.rest.now (row_at where_row self.old.rest.now) }
-    {
-        let id = self.id()?;
-        Ok(Command::ShowRange { id })
-    }
-
-    #[tactic(auto, unfolding(crate::specs::Reading::row_at))]
-    fn lock(&mut self) -> Result<Command, ReadError>
-        ensures { Moves result self.new.rest.now (row_at lock_row self.old.rest.now) }
-    {
-        Ok(Command::Lock)
-    }
-
-    #[tactic(auto, unfolding(crate::specs::Reading::row_at))]
-    fn unlock(&mut self) -> Result<Command, ReadError>
-        ensures { Moves result self.new.rest.now (row_at unlock_row self.old.rest.now) }
-    {
-        let revision = self.revision()?;
-        Ok(Command::Unlock { revision })
-    }
-
-    #[tactic(auto, unfolding(crate::specs::Reading::row_at))]
-    fn land(&mut self) -> Result<Command, ReadError>
-        ensures { Moves result self.new.rest.now (row_at land_row self.old.rest.now) }
-    {
-        let revision = self.revision()?;
-        let span = self.span()?;
-        let expand = self.expand()?;
-        let empty = self.empty()?;
-        Ok(Command::Land {
-            revision,
-            span,
-            expand,
-            empty,
-        })
-    }
-
-    /// Takes the number of a revision.
-    fn revision(&mut self) -> Result<u64, ReadError>
-        ensures { Moves result self.new.rest.now (number_at MAX_REVISION self.old.rest.now) }
-    {
-        Ok(u64::from(self.number(MAX_REVISION)?))
-    }
-
-    /// Takes the number of a range.
-    fn id(&mut self) -> Result<u64, ReadError>
-        ensures { Moves result self.new.rest.now (number_at MAX_ID self.old.rest.now) }
-    {
-        Ok(u64::from(self.number(MAX_ID)?))
-    }
-
-    /// Takes a number of at most this value.
-    fn number(&mut self, most: u32) -> Result<u32, ReadError>
-        ensures moves { Moves result self.new.rest.now (number_at most self.old.rest.now) }
+    /// Takes a number of at most so many digits and at most this value.
+    #[tactic(auto, using(crate::proofs::WordLemmas::moved))]
+    fn number_within(&mut self, digits: usize, most: u64) -> Result<u64, ReadError>
+        ensures moves { Moves result self.new.rest.now
+            (word_at (number_of digits most) self.old.rest.now) }
+        ensures small { IfOk result (λ number. number ≤ most) }
         ensures within { length self.new.rest.now ≤ length self.old.rest.now }
     {
-        let bytes = skip(self.rest);
-        let (word, rest) = split_word(bytes);
-        let Some(number) = number_of(most, word) else {
-            return Err(ReadError::Misfit { left: bytes.len() });
-        };
-        self.rest = rest;
-        Ok(number)
+        let (word, left) = self.word();
+        fields::number_of(digits, most, word).ok_or(ReadError::Misfit { left })
+    }
+
+    /// Takes the number of a line.
+    #[tactic(auto, unfolding(crate::specs::Fields::number_at))]
+    pub fn line(&mut self, limits: Limits) -> Result<u32, ReadError>
+        ensures moves { Moves result self.new.rest.now
+            (number_at limits ALine self.old.rest.now) }
+        ensures within { length self.new.rest.now ≤ length self.old.rest.now }
+    {
+        let number = self.number_within(limits.digits(), u64::from(limits.line()))?;
+        Ok(number as u32)
+    }
+
+    /// Takes the number of a column, or of units of a line.
+    #[tactic(auto, unfolding(crate::specs::Fields::number_at))]
+    pub fn column(&mut self, limits: Limits) -> Result<u64, ReadError>
+        ensures moves { Moves result self.new.rest.now
+            (number_at limits AColumn self.old.rest.now) }
+        ensures within { length self.new.rest.now ≤ length self.old.rest.now }
+    {
+        self.number_within(limits.digits(), limits.column())
+    }
+
+    /// Takes a number of 32 bits that counts no lines.
+    #[tactic(auto, unfolding(crate::specs::Fields::number_at))]
+    pub fn short(&mut self, limits: Limits) -> Result<u32, ReadError>
+        ensures { Moves result self.new.rest.now (number_at limits Short self.old.rest.now) }
+    {
+        let number = self.number_within(limits.digits(), u64::from(limits.short()))?;
+        Ok(number as u32)
+    }
+
+    /// Takes a number of 64 bits that counts no columns.
+    #[tactic(auto, unfolding(crate::specs::Fields::number_at))]
+    pub fn long(&mut self, limits: Limits) -> Result<u64, ReadError>
+        ensures { Moves result self.new.rest.now (number_at limits Long self.old.rest.now) }
+    {
+        self.number_within(limits.digits(), limits.long())
+    }
+
+    /// Takes a number of 64 bits, or `none`.
+    #[tactic(auto, using(crate::proofs::WordLemmas::moved), unfolding(crate::specs::Fields::or_none_at))]
+    pub fn long_or_none(&mut self, limits: Limits) -> Result<Option<u64>, ReadError>
+        ensures { Moves result self.new.rest.now (or_none_at limits Long self.old.rest.now) }
+    {
+        let (word, left) = self.word();
+        fields::or_none_of(limits, word).ok_or(ReadError::Misfit { left })
     }
 
     /// Takes a place.
     #[tactic(auto, unfolding(crate::specs::Fields::place_at))]
-    fn place(&mut self) -> Result<Place, ReadError>
-        ensures moves { Moves result self.new.rest.now (place_at self.old.rest.now) }
+    pub fn place(&mut self, limits: Limits) -> Result<Place, ReadError>
+        ensures moves { Moves result self.new.rest.now (place_at limits self.old.rest.now) }
         ensures within { length self.new.rest.now ≤ length self.old.rest.now }
     {
-        let line = self.number(MAX_REACH as u32)?;
-        let column = u64::from(self.number(MAX_REACH as u32)?);
+        let line = self.line(limits)?;
+        let column = self.column(limits)?;
         Ok(Place { line, column })
     }
 
     /// Takes a span, its two places in either order.
     #[tactic(auto, unfolding(crate::specs::Fields::span_at))]
-    fn span(&mut self) -> Result<Span, ReadError>
-        ensures moves { Moves result self.new.rest.now (span_at self.old.rest.now) }
+    pub fn span(&mut self, limits: Limits) -> Result<Span, ReadError>
+        ensures moves { Moves result self.new.rest.now (span_at limits self.old.rest.now) }
         ensures within { length self.new.rest.now ≤ length self.old.rest.now }
     {
-        let first = self.place()?;
-        let last = self.place()?;
+        let first = self.place(limits)?;
+        let last = self.place(limits)?;
         Ok(Span::new(first, last))
     }
 
+    /// Takes a span or `invalid`.
+    #[tactic(auto, unfolding(crate::specs::Fields::or_invalid_at))]
+    pub fn span_or_invalid(&mut self, limits: Limits) -> Result<Option<Span>, ReadError>
+        ensures { Moves result self.new.rest.now (or_invalid_at limits self.old.rest.now) }
+    {
+        let (word, rest) = fields::split_word(fields::skip(self.rest));
+        if word == b"invalid".as_slice() {
+            self.rest = rest;
+            return Ok(None);
+        }
+        Ok(Some(self.span(limits)?))
+    }
+
+    /// Takes spans as long as a digit begins the next word.
+    pub fn spans(&mut self, alloc: Global, limits: Limits) -> Result<Spans, ReadError>
+        ensures { Moves result self.new.rest.now (spans_at limits self.old.rest.now) }
+    {
+        let mut spans = Spans::new(alloc);
+        'spans: while self.is_before_number() {
+            spans.push(self.span(limits)?)?;
+        }
+        Ok(spans)
+    }
+
+    /// Whether a digit begins the next word.
+    fn is_before_number(&self) -> bool
+        ensures { result ≡ starts_number (skip self.now.rest.now) }
+    {
+        match fields::skip(self.rest) {
+            [] => false,
+            [byte, ..] => byte.is_ascii_digit(),
+        }
+    }
+
+    /// Takes a rule.
+    #[tactic(auto, unfolding(crate::specs::Fields::rule_at, crate::specs::Fields::rule_name))]
+    pub fn rule(&mut self, alloc: Global, limits: Limits) -> Result<Rule, ReadError>
+        ensures { Moves result self.new.rest.now (rule_at limits self.old.rest.now) }
+    {
+        let (word, left) = self.word();
+        if word == b"word".as_slice() {
+            let word = self.pattern(alloc)?;
+            Ok(Rule::Word { word })
+        } else if word == b"blanks".as_slice() {
+            Ok(Rule::Blanks)
+        } else if word == b"long".as_slice() {
+            let limit = self.column(limits)?;
+            Ok(Rule::Long { limit })
+        } else if word == b"pairs".as_slice() {
+            Ok(Rule::Pairs)
+        } else if word == b"repeat".as_slice() {
+            Ok(Rule::Repeat)
+        } else {
+            Err(ReadError::Misfit { left })
+        }
+    }
+
     /// Takes how a range expands.
-    fn expand(&mut self) -> Result<Expand, ReadError>
+    #[tactic(auto, using(crate::proofs::WordLemmas::moved), unfolding(crate::specs::Fields::expand_at))]
+    pub fn expand(&mut self) -> Result<Expand, ReadError>
         ensures { Moves result self.new.rest.now (expand_at self.old.rest.now) }
     {
-        let bytes = skip(self.rest);
-        let (word, rest) = split_word(bytes);
-        let Some(expand) = expand_of(word) else {
-            return Err(ReadError::Misfit { left: bytes.len() });
-        };
-        self.rest = rest;
-        Ok(expand)
+        let (word, left) = self.word();
+        fields::expand_of(word).ok_or(ReadError::Misfit { left })
     }
 
     /// Takes what happens to an empty range.
-    fn empty(&mut self) -> Result<Empty, ReadError>
+    #[tactic(auto, using(crate::proofs::WordLemmas::moved), unfolding(crate::specs::Fields::empty_at))]
+    pub fn empty(&mut self) -> Result<Empty, ReadError>
         ensures { Moves result self.new.rest.now (empty_at self.old.rest.now) }
     {
-        let bytes = skip(self.rest);
-        let (word, rest) = split_word(bytes);
-        let Some(empty) = empty_of(word) else {
-            return Err(ReadError::Misfit { left: bytes.len() });
-        };
-        self.rest = rest;
-        Ok(empty)
+        let (word, left) = self.word();
+        fields::empty_of(word).ok_or(ReadError::Misfit { left })
+    }
+
+    /// Takes whether a call succeeded: `ok`, or else `failed`.
+    #[tactic(auto, using(crate::proofs::WordLemmas::moved), unfolding(crate::specs::Fields::succeeds_at))]
+    pub fn succeeds(&mut self) -> Result<bool, ReadError>
+        ensures { Moves result self.new.rest.now (succeeds_at self.old.rest.now) }
+    {
+        let (word, left) = self.word();
+        fields::succeeds_of(word).ok_or(ReadError::Misfit { left })
+    }
+
+    /// Takes whether a session is closed: `closed`, or else `open`.
+    #[tactic(auto, using(crate::proofs::WordLemmas::moved), unfolding(crate::specs::Fields::closes_at))]
+    pub fn closes(&mut self) -> Result<bool, ReadError>
+        ensures { Moves result self.new.rest.now (closes_at self.old.rest.now) }
+    {
+        let (word, left) = self.word();
+        fields::closes_of(word).ok_or(ReadError::Misfit { left })
     }
 
     /// Takes a string, which is a text.
     #[tactic(auto, unfolding(crate::specs::Fields::text_at, crate::specs::Strings::string_at))]
-    fn text(&mut self, alloc: Global) -> Result<Text, ReadError>
-        requires { length self.old.rest.now ≤ MAX_SIZE }
+    pub fn text(&mut self, alloc: Global) -> Result<Text, ReadError>
         ensures { Moves result self.new.rest.now (text_at self.old.rest.now) }
     {
-        self.rest = skip(self.rest);
+        self.rest = fields::skip(self.rest);
         let [b'"', inside @ ..] = self.rest else {
             return Err(ReadError::Misfit {
                 left: self.rest.len(),
@@ -349,14 +251,36 @@ impl<'a> Words<'a> {
         }
     }
 
-    /// Moves behind a string that holds this text, if it is followed by a space or the end.
-    fn held(&mut self, text: Option<Text>, rest: &'a [u8]) -> Result<Text, ReadError>
-        ensures { Moves result self.new.rest.now (held text rest.now self.old.rest.now) }
+    /// Takes a string, which is a line that is not empty.
+    #[tactic(auto, unfolding(crate::specs::Fields::pattern_at, crate::specs::Strings::string_at))]
+    pub fn pattern(&mut self, alloc: Global) -> Result<Line, ReadError>
+        ensures { Moves result self.new.rest.now (pattern_at self.old.rest.now) }
     {
-        match text {
-            Some(text) if ends_here(rest) => {
+        self.rest = fields::skip(self.rest);
+        let [b'"', inside @ ..] = self.rest else {
+            return Err(ReadError::Misfit {
+                left: self.rest.len(),
+            });
+        };
+        match string(alloc, inside)? {
+            Some((bytes, rest)) => {
+                let line = pattern_of(alloc, &bytes)?;
+                self.held(line, rest)
+            }
+            None => Err(ReadError::Misfit {
+                left: self.rest.len(),
+            }),
+        }
+    }
+
+    /// Moves past a string that holds this value, if a space or the end follows it.
+    fn held<T: Drop>(&mut self, value: Option<T>, rest: &'a [u8]) -> Result<T, ReadError>
+        ensures { Moves result self.new.rest.now (held value rest.now self.old.rest.now) }
+    {
+        match value {
+            Some(value) if ends_here(rest) => {
                 self.rest = rest;
-                Ok(text)
+                Ok(value)
             }
             _ => Err(ReadError::Misfit {
                 left: self.rest.len(),

@@ -5,6 +5,7 @@
 #![tactic(auto)]
 
 use kte_causes::{CalmDisk, FileDisk, StdSink, StdSource};
+use kte_find::PlainChecker;
 use kte_run::{Status, run};
 use kte_words::{Word, parse};
 use std::alloc::{AllocError, Global};
@@ -65,11 +66,27 @@ fn edit(rt: &HostRuntime, words: &[Word]) -> Status {
     match file.and_then(|at| words.get(at as usize)) {
         Some(file) => {
             let mut disk = FileDisk::new(alloc, rt, file.as_str());
-            run(rt, alloc, words, &mut script, &mut disk, &mut out)
+            run(
+                rt,
+                alloc,
+                words,
+                &mut script,
+                &mut disk,
+                &mut out,
+                &PlainChecker,
+            )
         }
         None => {
             let mut disk = CalmDisk::new(Vec::new(alloc), Vec::new(alloc));
-            run(rt, alloc, words, &mut script, &mut disk, &mut out)
+            run(
+                rt,
+                alloc,
+                words,
+                &mut script,
+                &mut disk,
+                &mut out,
+                &PlainChecker,
+            )
         }
     }
 }

@@ -6,6 +6,6 @@ pub returns : goal.returns
 returns c = record {
   undo = undone_text;
   redo = redone_text;
-  fit = λ loaded limit events text whole legal.
-      (steady-replay (beginning loaded limit) events whole (steady-beginning loaded limit text) legal).fit;
+  fit = λ loaded limit events text whole answered.
+      (steady-replay (beginning loaded limit) events whole (steady-beginning loaded limit text) answered).fit;
 }

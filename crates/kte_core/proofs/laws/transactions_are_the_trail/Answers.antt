@@ -7,9 +7,9 @@ use Rattle.kte_core.proofs.laws.transactions_are_the_trail.Goals as goal
 
 pub returns : goal.returns
 returns c = record {
-  trail = λ loaded limit events text whole legal.
-      parted-replay (beginning loaded limit) events [] whole (steady-beginning loaded limit text) legal refl;
-  fit = λ loaded limit events text whole legal.
+  trail = λ loaded limit events text whole answered.
+      parted-replay (beginning loaded limit) events [] whole (steady-beginning loaded limit text) answered refl;
+  fit = λ loaded limit events text whole answered.
       subst (λ l. FitInTurn (replay (beginning loaded limit) events).editing.trail l.text) (loaded-replay (beginning loaded limit) events)
-      (steady-replay (beginning loaded limit) events whole (steady-beginning loaded limit text) legal).turn;
+      (steady-replay (beginning loaded limit) events whole (steady-beginning loaded limit text) answered).turn;
 }

@@ -1,4 +1,4 @@
-use Rattle.kte_run.proofs.Journals.{Outputs-same}
+use Rattle.kte_run.proofs.OutputLemmas.{Outputs-same}
 use Rattle.kte_run.proofs.laws.output_is_unique.Goals as goal
 
 pub returns : goal.returns

@@ -1,50 +1,15 @@
-use Rattle.std.proofs.Common.{◌≡◌, ◌∙◌, refl, arith, ap, Err, Some}
-use Rattle.kte_causes.specs.Moments.{saved_now}
+use Rattle.std.proofs.Common.{◌≡◌, ap, subst}
+use Rattle.kte_words.specs.Words.{FirstMisfit}
+use Rattle.kte_words.specs.declared.parsing.BadWords.{BadWords}
 use Rattle.kte_run.specs.declared.status.Status.TheVariants as status
-use Rattle.kte_script.specs.declared.fault.ScriptFault.TheVariants as fault
-use Rattle.kte_run.proofs.Answering.{spells-bad, script-spelled, script-bad, script-complete, file-refused, file-loadable, sink-failed}
 use Rattle.kte_run.proofs.program.run.Goals as goal
 
-pub returns-in-Some-clause-bad_words : goal.returns-in-Some-clause-bad_words
-returns-in-Some-clause-bad_words g c = λ at. (
-  λ is. let same : c.in-Some.at ≡ at = cc is in (c.first_misfit.ensures.misfit at).0 (c.in-Some.is ∙ ap Some same),
-  λ misfit. let other = (c.first_misfit.ensures.misfit at).1 misfit in let same : c.in-Some.at ≡ at = cc (c.in-Some.is, other) in ap status.BadWords same,
+pub returns-in-Err-clause-bad_words : goal.returns-in-Err-clause-bad_words
+returns-in-Err-clause-bad_words g c = λ at. (
+  λ is. let same : c.in-Err.fault.at ≡ at = cc is in subst (λ (n : _). FirstMisfit c.args.words.now n) same ((c.parse.ensures.misfit c.in-Err.fault).0 c.in-Err.is),
+  λ misfit.
+      let bad : BadWords = record { at = at } in
+      let other = (c.parse.ensures.misfit bad).1 misfit in
+      let same : c.in-Err.fault ≡ bad = cc (c.in-Err.is, other) in
+      ap (λ (fault : BadWords). status.BadWords fault.at) same,
 )
-
-pub returns-in-Err-clause-bad_script : goal.returns-in-Err-clause-bad_script
-returns-in-Err-clause-bad_script g c = λ fault is.
-    let bad = c.in-Err.ensures.bad_script fault (ap Err is) in (bad.1, bad.2, refl, refl)
-
-pub returns-in-Err-clause-bad_script_comes : goal.returns-in-Err-clause-bad_script_comes
-returns-in-Err-clause-bad_script_comes g c = λ fault fits bad.
-    script-bad c.in-Err.status (g.S.Source.left c.args.script.now) fault c.in-Err.ensures.only
-    (λ other is. (c.in-Err.ensures.bad_script other (ap Err is)).2) bad
-
-pub returns-in-Err-clause-bad_script_named : goal.returns-in-Err-clause-bad_script_named
-returns-in-Err-clause-bad_script_named g c = λ is. (c.in-Err.ensures.bad_script fault.NoMemory (ap Err is)).0 refl
-
-pub returns-in-Err-clause-refused_comes : goal.returns-in-Err-clause-refused_comes
-returns-in-Err-clause-refused_comes g c = λ fault fits spells refused.
-    script-spelled c.in-Err.status _ _ c.in-Err.ensures.only
-    (λ fault bad. spells-bad (g.S.Source.left c.args.script.now) fault spells (c.in-Err.ensures.bad_script fault (ap Err bad)).2)
-
-pub returns-in-Err-clause-complete : goal.returns-in-Err-clause-complete
-returns-in-Err-clause-complete g c = λ fits spells loadable.
-    script-complete c.in-Err.status c.in-Err.ensures.only
-    (λ fault bad. spells-bad (g.S.Source.left c.args.script.now) fault spells (c.in-Err.ensures.bad_script fault (ap Err bad)).2)
-
-pub returns-in-Err-load_saved-clause-refused_comes :
-    goal.returns-in-Err-load_saved-clause-refused_comes
-returns-in-Err-load_saved-clause-refused_comes g c = λ fault fits spells refused.
-    file-refused c.in-Err-load_saved.status _ _ (c.in-Err-load_saved.ensures.refused_comes fault refused)
-
-pub returns-in-Err-load_saved-clause-complete : goal.returns-in-Err-load_saved-clause-complete
-returns-in-Err-load_saved-clause-complete g c = λ fits spells loadable.
-    file-loadable c.in-Err-load_saved.status (saved_now (g.D.Disk.moments c.args.disk.now)) c.in-Err-load_saved.ensures.only
-    (λ fault some is. (c.in-Err-load_saved.ensures.refused fault some (ap Err is)).1) loadable
-
-pub returns-in_default-edited-clause-complete : goal.returns-in_default-edited-clause-complete
-returns-in_default-edited-clause-complete g c = λ fits spells loadable. (4, omega arith, refl)
-
-pub returns-clause-complete : goal.returns-clause-complete
-returns-clause-complete g c = λ fits spells loadable. sink-failed c.in-Err-write_whole.fail c.from.result c.from.ensures

@@ -2,17 +2,12 @@ use Rattle.std.proofs.Common.{arith}
 use Rattle.kte_script.proofs.NumberLemmas.{one_more}
 use Rattle.kte_script.proofs.fields.digits_value.Goals as goal
 
-pub overflow_mul-value : goal.overflow_mul-value
-overflow_mul-value c =
-    let more = one_more c.args.word.now c.loop-byte.byte-index c.requires.digits c.requires.few (omega arith) in
-    omega arith
-
-pub overflow_add-value : goal.overflow_add-value
-overflow_add-value c =
-    let more = one_more c.args.word.now c.loop-byte.byte-index c.requires.digits c.requires.few (omega arith) in
-    omega arith
+pub returns-in_default : goal.returns-in_default
+returns-in_default c =
+    let more = one_more c.args.word.now c.loop-byte.byte-index c.requires (omega arith) in
+    omega (arith, more.value, more.whole)
 
 pub loop-byte-preserved : goal.loop-byte-preserved
 loop-byte-preserved c =
-    let more = one_more c.args.word.now c.loop-byte.byte-index c.requires.digits c.requires.few (omega arith) in
-    omega arith
+    let more = one_more c.args.word.now c.loop-byte.byte-index c.requires (omega arith) in
+    omega (arith, more.value)

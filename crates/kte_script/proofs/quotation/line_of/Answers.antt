@@ -1,5 +1,4 @@
-use Rattle.std.proofs.Common.{◌∙◌, length, ap, arith, refl}
-use Rattle.kte_script.proofs.PartLemmas.{line_size}
+use Rattle.std.proofs.Common.{refl}
 use Rattle.kte_script.proofs.StringLemmas.{holds_end, no_text, holds_line}
 use Rattle.kte_script.proofs.quotation.line_of.Goals as goal
 
@@ -10,11 +9,6 @@ pub returns-in-Ok-from_utf8-clause-line : goal.returns-in-Ok-from_utf8-clause-li
 returns-in-Ok-from_utf8-clause-line c =
     holds_line c.args.text.now c.in-Ok.text.now c.in-Ok-from_utf8.line c.in-Ok.ensures.0
     c.in-Ok-from_utf8.ensures.line c.units-units.ensures.whole
-
-pub returns-in-Ok-from_utf8-clause-short : goal.returns-in-Ok-from_utf8-clause-short
-returns-in-Ok-from_utf8-clause-short c =
-    let same = ap length (c.in-Ok-from_utf8.ensures.line ∙ c.in-Ok.ensures.0) in
-    omega (arith, same, line_size c.in-Ok-from_utf8.line c.units-units.ensures.whole)
 
 pub returns-in-Err-HasEnd-clause-line : goal.returns-in-Err-HasEnd-clause-line
 returns-in-Err-HasEnd-clause-line c =

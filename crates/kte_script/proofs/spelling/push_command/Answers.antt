@@ -20,3 +20,6 @@ returns-in-Unlock-clause-ok c = rw c.in-Unlock.is c.push_unlock.ensures.ok
 
 pub returns-in-Land-clause-ok : goal.returns-in-Land-clause-ok
 returns-in-Land-clause-ok c = rw c.in-Land.is c.push_land.ensures.ok
+
+pub returns-in-Check-clause-ok : goal.returns-in-Check-clause-ok
+returns-in-Check-clause-ok c = rw c.in-Check.is c.push_check.ensures.ok

@@ -1,0 +1,286 @@
+-- What the replies of the core make of the editor's part.
+use Rattle.std.proofs.Common.{◌≡◌, ℕ, zero, suc, ◌-◌, ◌<◌, ◌==◌, Bool, true, false, List, [], ◌∷◌, Option, None, Some, if◌then◌else◌, refl, ap, sym, subst, ◌∙◌, inl, inr, arith}
+use Rattle.std.specs.FinMap.{get}
+use Rattle.std.proofs.lemmas.Bool.{cases_Bool, eqb-true}
+use Rattle.kte_text.specs.declared.primitive.Primitive.{Primitive}
+use Rattle.kte_place.specs.Ends.{Ends}
+use Rattle.kte_place.specs.declared.span.Expand.{Expand}
+use Rattle.kte_place.specs.declared.span.Empty.{Empty}
+use Rattle.kte_history.specs.declared.lock.Owner.TheVariants as owner
+use Rattle.kte_history.specs.Locks.{has_lock}
+use Rattle.kte_undo.specs.Groups.{Edits, begun, closed, ended}
+use Rattle.kte_undo.specs.Steps.{steps_along}
+use Rattle.kte_undo.specs.declared.step.Step.{Step}
+use Rattle.kte_edit.specs.Steps.{steps_of}
+use Rattle.kte_command.specs.declared.command.Command.{Command}
+use Rattle.kte_command.specs.declared.command.Command.TheVariants.{Edit, Begin, End, Undo, Redo, MakeRange, SetRange, DropRange, ShowRange, Lock, Unlock, Land, Check, Sync, Save}
+use Rattle.kte_core.specs.Editing.{EditReaction, text_of, judged, still_open, noted_all, noted_change, changed, undone, redone, undo_steps, redo_steps, change_refusal, group_refusal}
+use Rattle.kte_core.specs.State.{State, Range, Reaction, refused, edited}
+use Rattle.kte_core.specs.React.{react_by, react_command, cut_at, set_range, drop_range, show_range, unlock, land, can_land_from, ask_outside, close}
+use Rattle.kte_core.specs.Replay.{IsAnswered, came_of, after_event}
+use Rattle.kte_core.specs.declared.reply.Reply.{Reply}
+use Rattle.kte_core.specs.declared.reply.Reply.TheVariants as reply
+use Rattle.kte_core.specs.declared.reply.Refusal.{Refusal}
+use Rattle.kte_core.specs.declared.reply.Refusal.TheVariants.{Closed}
+use Rattle.kte_core.specs.declared.request.Request.{Request}
+use Rattle.kte_core.specs.declared.request.Request.TheVariants.{Cmd, Close}
+use Rattle.kte_run.specs.Schedule.{depth_by, asked_from}
+use Rattle.kte_run.specs.Editor.{Part, left, first_of, asked, depth_told, told, IsAt, Follows, own}
+
+-- the depth after each step of the groups
+depth-closed : (steps : List Step) (edits : Edits) → (closed steps edits).depth ≡ edits.depth
+depth-closed [] edits = refl
+depth-closed (first ∷ steps) edits = refl
+
+depth-ended : (edits : Edits) → (ended edits).depth ≡ edits.depth - 1
+depth-ended edits =
+    elim (cases_Bool (edits.depth == 1)) [
+      | inl t ↦ rw t (depth-closed edits.current (record edits { depth = 0 }) ∙ omega (arith, eqb-true edits.depth 1 t))
+      | inr f ↦ rw f refl
+    ]
+
+depth-noted : (steps : List Step) (edits : Edits) → (noted_change steps edits).depth ≡ edits.depth
+depth-noted steps edits =
+    elim (cases_Bool (edits.depth == 0)) [
+      | inl t ↦ rw t (depth-ended (noted_all steps (begun edits)) ∙ omega arith)
+      | inr f ↦ rw f refl
+    ]
+
+-- the seat has taken a job
+abbrev pub is_took : Reply → Bool
+is_took (reply.Took job revision) = true
+is_took _ = false
+
+-- what comes of a command in a session that is open: the depth is the one after the command, and the
+-- reply tells it, and takes no job
+pub record Tells (state : State) (command : Command) (came : Reaction) : Type 0 where
+  pub depth : came.after.editing.edits.depth ≡ depth_by state.editing.edits.depth command
+  pub told : depth_told came.reply state.editing.edits.depth ≡ depth_by state.editing.edits.depth command
+  pub closed : came.after.closed ≡ state.closed
+  pub untaken : is_took came.reply ≡ false
+
+-- a command that edits, and keeps the depth
+tells-judged : (judgement : Option Refusal) (state : State) (command : Command) (made : EditReaction)
+    → depth_by state.editing.edits.depth command ≡ state.editing.edits.depth
+    → made.after.edits.depth ≡ state.editing.edits.depth
+    → depth_told made.reply state.editing.edits.depth ≡ state.editing.edits.depth → is_took made.reply ≡ false
+    → Tells state command (edited state (judged judgement state.editing made))
+tells-judged None state command made keeps depth told untaken =
+    record { depth = depth ∙ sym keeps; told = told ∙ sym keeps; closed = refl; untaken = untaken }
+tells-judged (Some refusal) state command made keeps depth told untaken =
+    record { depth = sym keeps; told = sym keeps; closed = refl; untaken = refl }
+
+-- the end of a transaction, or of none
+tells-end : (state : State) → Tells state End (react_command state End)
+tells-end state =
+    elim (cases_Bool (state.editing.edits.depth == 0)) [
+      | inl t ↦ rw t (let shut = eqb-true state.editing.edits.depth 0 t in record { depth = omega arith; told = omega arith; closed = refl; untaken = refl })
+      | inr f ↦ rw f (record { depth = depth-ended state.editing.edits; told = depth-ended state.editing.edits; closed = refl; untaken = refl })
+    ]
+
+-- a command that keeps what is edited, and whose reply does not tell the depth
+record IsApart (state : State) (came : Reaction) : Type 0 where
+  depth : came.after.editing.edits.depth ≡ state.editing.edits.depth
+  told : depth_told came.reply state.editing.edits.depth ≡ state.editing.edits.depth
+  closed : came.after.closed ≡ state.closed
+  untaken : is_took came.reply ≡ false
+
+tells-apart : (state : State) (command : Command) (came : Reaction)
+    → depth_by state.editing.edits.depth command ≡ state.editing.edits.depth → IsApart state came → Tells state command came
+tells-apart state command came keeps apart =
+    record { depth = apart.depth ∙ sym keeps; told = apart.told ∙ sym keeps; closed = apart.closed; untaken = apart.untaken }
+
+apart-set : (state : State) (id : ℕ) (span : Ends) (found : Option Range) → IsApart state (set_range state id span found)
+apart-set state id span None = record { depth = refl; told = refl; closed = refl; untaken = refl }
+apart-set state id span (Some range) = record { depth = refl; told = refl; closed = refl; untaken = refl }
+
+apart-drop : (state : State) (id : ℕ) (found : Option Range) → IsApart state (drop_range state id found)
+apart-drop state id None = record { depth = refl; told = refl; closed = refl; untaken = refl }
+apart-drop state id (Some range) = record { depth = refl; told = refl; closed = refl; untaken = refl }
+
+apart-show : (state : State) (id : ℕ) (found : Option Range) → IsApart state (show_range state id found)
+apart-show state id None = record { depth = refl; told = refl; closed = refl; untaken = refl }
+apart-show state id (Some range) = record { depth = refl; told = refl; closed = refl; untaken = refl }
+
+apart-unlock : (state : State) (revision : ℕ) (owned : Bool) → IsApart state (unlock state revision owned)
+apart-unlock state revision true = record { depth = refl; told = refl; closed = refl; untaken = refl }
+apart-unlock state revision false = record { depth = refl; told = refl; closed = refl; untaken = refl }
+
+apart-land : (state : State) (revision : ℕ) (span : Ends) (expand : Expand) (empty : Empty) (may : Bool)
+    → IsApart state (land state revision span expand empty may)
+apart-land state revision span expand empty true = record { depth = refl; told = refl; closed = refl; untaken = refl }
+apart-land state revision span expand empty false = record { depth = refl; told = refl; closed = refl; untaken = refl }
+
+apart-outside : (state : State) (cause : Option Refusal) → IsApart state (ask_outside state cause)
+apart-outside state None = record { depth = refl; told = refl; closed = refl; untaken = refl }
+apart-outside state (Some refusal) = record { depth = refl; told = refl; closed = refl; untaken = refl }
+
+pub tells : (state : State) (command : Command) → Tells state command (react_command state command)
+tells state (Edit change) =
+    let ps : List Primitive = steps_of change (text_of state.editing) in
+    tells-judged (change_refusal state.editing change) state (Edit change) (changed reply.Edited state.editing ps) refl
+    (depth-noted (steps_along ps (text_of state.editing)) state.editing.edits) (depth-noted (steps_along ps (text_of state.editing)) state.editing.edits) refl
+tells state Begin = record { depth = refl; told = refl; closed = refl; untaken = refl }
+tells state End = tells-end state
+tells state Undo =
+    tells-judged (group_refusal state.editing state.editing.edits.undo (undo_steps state.editing)) state Undo
+    (undone reply.Edited state.editing (undo_steps state.editing)) refl refl refl refl
+tells state Redo =
+    tells-judged (group_refusal state.editing state.editing.edits.redo (redo_steps state.editing)) state Redo
+    (redone reply.Edited state.editing (redo_steps state.editing)) refl refl refl refl
+tells state (MakeRange span expand empty) = record { depth = refl; told = refl; closed = refl; untaken = refl }
+tells state (SetRange id span) = tells-apart state (SetRange id span) _ refl (apart-set state id span (get state.ranges id))
+tells state (DropRange id) = tells-apart state (DropRange id) _ refl (apart-drop state id (get state.ranges id))
+tells state (ShowRange id) = tells-apart state (ShowRange id) _ refl (apart-show state id (get state.ranges id))
+tells state Lock = record { depth = refl; told = refl; closed = refl; untaken = refl }
+tells state (Unlock revision) = tells-apart state (Unlock revision) _ refl (apart-unlock state revision (has_lock state.locks owner.Editor revision))
+tells state (Land revision span expand empty) =
+    tells-apart state (Land revision span expand empty) _ refl (apart-land state revision span expand empty (can_land_from state revision))
+tells state (Check rule) = record { depth = refl; told = refl; closed = refl; untaken = refl }
+tells state Sync = tells-apart state Sync _ refl (apart-outside state (still_open state.editing.edits.depth))
+tells state Save = tells-apart state Save _ refl (apart-outside state (still_open state.editing.edits.depth))
+
+-- in a session that is open, what comes of a command or of the close that was not cut
+pub came-command : (state : State) (command : Command) (answer : Reply) → state.closed ≡ false → cut_at answer ≡ None
+    → came_of state (own (Cmd command) answer) ≡ react_command state command
+came-command state command answer still_open whole =
+    ap (λ (at : Option ℕ). react_by state 0 (Cmd command) at) whole
+    ∙ ap (λ (b : Bool). if b then refused state Closed else react_command state command) still_open
+
+pub came-close : (state : State) (answer : Reply) → state.closed ≡ false → cut_at answer ≡ None → came_of state (own Close answer) ≡ close state
+came-close state answer still_open whole =
+    ap (λ (at : Option ℕ). react_by state 0 Close at) whole
+    ∙ ap (λ (b : Bool). if b then refused state Closed else close state) still_open
+
+-- a command, after which the depth is the one that its reply tells
+record Knows (state : State) (command : Command) (answer : Reply) : Type 0 where
+  told : depth_told answer state.editing.edits.depth ≡ depth_by state.editing.edits.depth command
+  depth : (after_event state (own (Cmd command) answer)).editing.edits.depth ≡ depth_by state.editing.edits.depth command
+  closed : (after_event state (own (Cmd command) answer)).closed ≡ state.closed
+
+knows : (state : State) (command : Command) (answer : Reply) → state.closed ≡ false → cut_at answer ≡ None
+    → IsAnswered state (own (Cmd command) answer) → Knows state command answer
+knows state command answer still_open whole answered =
+    let came = came-command state command answer still_open whole in
+    let tell = tells state command in
+    record {
+      told = ap (λ (r : Reply). depth_told r state.editing.edits.depth) (answered.reply ∙ ap (λ (c : Reaction). c.reply) came) ∙ tell.told;
+      depth = ap (λ (c : Reaction). c.after.editing.edits.depth) came ∙ tell.depth;
+      closed = ap (λ (c : Reaction). c.after.closed) came ∙ tell.closed;
+    }
+
+-- the next command
+follows-command : (state : State) (command : Command) (commands : List Command) (answer : Reply) (depth : ℕ)
+    → state.editing.edits.depth ≡ depth → state.closed ≡ false → cut_at answer ≡ None → IsAnswered state (own (Cmd command) answer)
+    → Follows state (own (Cmd command) answer) (record { commands = command ∷ commands; depth = depth; closed = false; failed = false })
+    (record { commands = commands; depth = depth_told answer depth; closed = false; failed = false })
+follows-command state command commands answer depth at still_open whole answered =
+    let known = knows state command answer still_open whole answered in
+    let now : depth_told answer depth ≡ depth_by depth command =
+    ap (depth_told answer) (sym at) ∙ known.told ∙ ap (λ d. depth_by d command) at in
+    record {
+      left = ap (λ d. Cmd command ∷ asked_from d commands) (sym now);
+      at = record { depth = known.depth ∙ ap (λ d. depth_by d command) at ∙ sym now; closed = known.closed ∙ still_open };
+    }
+
+-- the end of a transaction that the commands have left open
+follows-end : (state : State) (answer : Reply) (depth : ℕ)
+    → state.editing.edits.depth ≡ suc depth → state.closed ≡ false → cut_at answer ≡ None → IsAnswered state (own (Cmd End) answer)
+    → Follows state (own (Cmd End) answer) (record { commands = []; depth = suc depth; closed = false; failed = false })
+    (record { commands = []; depth = depth_told answer (suc depth); closed = false; failed = false })
+follows-end state answer depth at still_open whole answered =
+    let known = knows state End answer still_open whole answered in
+    let less : depth_by (suc depth) End ≡ depth = omega arith in
+    let now : depth_told answer (suc depth) ≡ depth =
+    ap (depth_told answer) (sym at) ∙ known.told ∙ ap (λ d. depth_by d End) at ∙ less in
+    record {
+      left = ap (λ d. Cmd End ∷ asked_from d []) (sym now);
+      at = record { depth = known.depth ∙ ap (λ d. depth_by d End) at ∙ less ∙ sym now; closed = known.closed ∙ still_open };
+    }
+
+-- the close
+follows-close : (state : State) (answer : Reply) (commands : List Command) (depth : ℕ) (failed : Bool)
+    → left (record { commands = commands; depth = depth; closed = false; failed = failed }) ≡ Close ∷ []
+    → state.editing.edits.depth ≡ depth → state.closed ≡ false → cut_at answer ≡ None → IsAnswered state (own Close answer)
+    → Follows state (own Close answer) (record { commands = commands; depth = depth; closed = false; failed = failed })
+    (record { commands = commands; depth = depth_told answer depth; closed = true; failed = failed })
+follows-close state answer commands depth failed last at still_open whole answered =
+    let came = came-close state answer still_open whole in
+    let same : depth_told answer depth ≡ depth =
+    ap (λ (r : Reply). depth_told r depth) (answered.reply ∙ ap (λ (c : Reaction). c.reply) came) in
+    record {
+      left = last;
+      at = record {
+        depth = ap (λ (c : Reaction). c.after.editing.edits.depth) came ∙ at ∙ sym same;
+        closed = ap (λ (c : Reaction). c.after.closed) came;
+      };
+    }
+
+-- the first request that is left is this one
+along : (state : State) (first request : Request) (answer : Reply) (before after : Part) → first ≡ request
+    → (IsAnswered state (own first answer) → Follows state (own first answer) before after)
+    → IsAnswered state (own request answer) → Follows state (own request answer) before after
+along state first request answer before after is by =
+    subst (λ (r : Request). IsAnswered state (own r answer) → Follows state (own r answer) before after) is by
+
+-- by a reply that the core may give to the first request that is left, the others are left
+follows-by : (commands : List Command) (depth : ℕ) (closed failed : Bool) (state : State) (request : Request) (answer : Reply)
+    → first_of (left (record { commands = commands; depth = depth; closed = closed; failed = failed })) ≡ Some request
+    → state.editing.edits.depth ≡ depth → state.closed ≡ closed → cut_at answer ≡ None → IsAnswered state (own request answer)
+    → Follows state (own request answer) (record { commands = commands; depth = depth; closed = closed; failed = failed })
+    (told answer (asked (record { commands = commands; depth = depth; closed = closed; failed = failed })))
+follows-by commands depth true failed state request answer first at shut whole answered = absurd (cc)
+follows-by commands depth false true state request answer first at shut whole answered =
+    along state (Close) request answer _ _ (cc)
+    (follows-close state answer commands depth true refl at shut whole) answered
+follows-by (command ∷ commands) depth false false state request answer first at shut whole answered =
+    along state (Cmd command) request answer _ _ (cc)
+    (follows-command state command commands answer depth at shut whole) answered
+follows-by [] zero false false state request answer first at shut whole answered =
+    along state (Close) request answer _ _ (cc)
+    (follows-close state answer [] zero false refl at shut whole) answered
+follows-by [] (suc depth) false false state request answer first at shut whole answered =
+    along state (Cmd End) request answer _ _ (cc)
+    (follows-end state answer depth at shut whole) answered
+
+follows : (before : Part) (state : State) (request : Request) (answer : Reply) → first_of (left before) ≡ Some request → IsAt state before
+    → IsAnswered state (own request answer) → cut_at answer ≡ None → Follows state (own request answer) before (told answer (asked before))
+follows before state request answer first at answered whole =
+    follows-by before.commands before.depth before.closed before.failed state request answer first at.depth at.closed whole answered
+
+-- a reply that is no Cut was not cut
+pub uncut : (answer : Reply) → ((steps revision depth : ℕ) → answer ≡ reply.Cut steps revision depth → ⊥) → cut_at answer ≡ None
+uncut (reply.Edited steps revision depth) never = refl
+uncut (reply.Cut steps revision depth) never = absurd (never steps revision depth refl)
+uncut (reply.Depth depth) never = refl
+uncut (reply.Range id span) never = refl
+uncut (reply.Dropped id) never = refl
+uncut (reply.Locked revision) never = refl
+uncut (reply.Unlocked revision) never = refl
+uncut (reply.Landed span) never = refl
+uncut (reply.Posted job) never = refl
+uncut reply.Asked never = refl
+uncut (reply.Took job revision) never = refl
+uncut (reply.Delivered job first count) never = refl
+uncut (reply.Returned job) never = refl
+uncut reply.Noted never = refl
+uncut reply.Closed never = refl
+uncut (reply.Refused refusal) never = refl
+
+-- an end comes next while a transaction is open and no command is left
+pub first-end : (commands : List Command) (depth : ℕ) (closed failed : Bool) → closed ≡ false → failed ≡ false → commands ≡ [] → 0 < depth
+    → Some (Cmd End) ≡ first_of (left (record { commands = commands; depth = depth; closed = closed; failed = failed }))
+first-end commands zero closed failed still_open sound none some = absurd (omega arith)
+first-end commands (suc depth) closed failed still_open sound none some = rw (still_open, sound, none) refl
+
+-- what was told of the part as its fields, is told of the part
+pub follows-told : (was : Part) (before : Part) (answer : Reply) (depth : ℕ) → was ≡ before → depth ≡ depth_told answer was.depth
+    → record was { depth = depth } ≡ told answer before
+follows-told was before answer depth is now = ap (λ (d : ℕ). record was { depth = d }) now ∙ ap (told answer) is
+
+pub follows-now : (was after before : Part) (state : State) (request : Request) (answer : Reply) → after ≡ told answer was → was ≡ asked before
+    → first_of (left before) ≡ Some request → IsAt state before → IsAnswered state (own request answer) → cut_at answer ≡ None
+    → Follows state (own request answer) before after
+follows-now was after before state request answer now is first at answered whole =
+    subst (λ (part : Part). Follows state (own request answer) before part) (ap (told answer) (sym is) ∙ sym now)
+    (follows before state request answer first at answered whole)

@@ -1,0 +1,30 @@
+use Rattle.std.proofs.Common.{◌≡◌, ◌∙◌, ℕ, None, Some, refl, ap, sym}
+use Rattle.kte_jobs.specs.Jobs.{least_waiting}
+use Rattle.kte_core.specs.Replay.{Session, present}
+use Rattle.kte_core.proofs.OneJobLemmas.{least_none}
+use Rattle.kte_run.proofs.HistoryLemmas.{Serves-none, Serves-then}
+use Rattle.kte_run.proofs.ServeLemmas.{all_done}
+use Rattle.kte_run.proofs.alone.drain.Goals as goal
+
+pub loop-job-init : goal.loop-job-init
+loop-job-init g c = (Serves-none c.args.core.now, c.requires, λ none. refl)
+
+-- a job waits, where none did and nothing was done
+never : (before now : Session) (job : ℕ) → (least_waiting (present before).jobs ≡ None → now ≡ before)
+    → Some job ≡ least_waiting (present now).jobs → least_waiting (present before).jobs ≡ None → ⊥
+never before now job same waits none =
+    let here = waits ∙ ap (λ (session : Session). least_waiting (present session).jobs) (same none) ∙ none in
+    cc
+
+pub loop-job-preserved : goal.loop-job-preserved
+loop-job-preserved g c = (
+  Serves-then c.args.core.now c.loop-job.core c.serve.new.core c.loop-job.invariant.0 c.in_ok-serve.ensures.ok,
+  c.in_ok-serve.ensures.can,
+  λ none. absurd (never c.args.core.now c.loop-job.core c.in-Some.job c.loop-job.invariant.2 c.in-Some.ensures none),
+)
+
+pub returns-clause-ok : goal.returns-clause-ok
+returns-clause-ok g c = record {
+  serves = c.loop-job.invariant.0;
+  done = all_done (present c.loop-job.core).jobs (least_none (present c.loop-job.core).jobs (sym c.in_default.ensures)) (c.loop-job.invariant.1).none_taken;
+}
