@@ -7,10 +7,8 @@ use Rattle.std.proofs.lemmas.List.Elements.{All-nil, All-append, All-cons}
 use Rattle.std.proofs.lemmas.List.Sums.{count_by-le-length}
 use Rattle.kte_text.specs.declared.primitive.Primitive.{Primitive}
 use Rattle.kte_text.specs.declared.loading.Loaded.{Loaded}
-use Rattle.kte_find.specs.Rule.{HasWord}
 use Rattle.kte_jobs.specs.declared.job.JobState.TheVariants.{Done}
 use Rattle.kte_jobs.specs.Job.{Job, is_waiting}
-use Rattle.kte_command.specs.Commands.{InRange}
 use Rattle.kte_command.specs.declared.command.Command.{Command}
 use Rattle.kte_command.specs.declared.command.Command.TheVariants.{Begin, End, Sync, Save}
 use Rattle.kte_jobs.proofs.JobLemmas.{job_at_number}
@@ -18,7 +16,6 @@ use Rattle.kte_core.specs.Jobs.{taken_in}
 use Rattle.kte_core.specs.State.{State, Reaction}
 use Rattle.kte_core.specs.React.{cut_at}
 use Rattle.kte_core.specs.Requests.{IsAllowed, HasNumbers, ranges_of}
-use Rattle.kte_core.specs.JobsInWords.{Allows}
 use Rattle.kte_core.specs.Replay.{Session, beginning, present, replay, IsAnswered, after_event, came_of}
 use Rattle.kte_core.specs.declared.event.Event.{Event}
 use Rattle.kte_core.specs.declared.reply.Reply.{Reply}
@@ -26,13 +23,13 @@ use Rattle.kte_core.specs.declared.reply.Reply.TheVariants as reply
 use Rattle.kte_core.specs.declared.request.Request.{Request}
 use Rattle.kte_core.specs.declared.request.Request.TheVariants.{Cmd, Close, Take, Deliver, GiveBack, Outcome}
 use Rattle.kte_core.proofs.CaseLemmas.{event_grows}
-use Rattle.kte_core.proofs.AllJobLemmas.{event_keeps, jobs_rise}
+use Rattle.kte_core.proofs.AllJobLemmas.{jobs_rise}
 use Rattle.kte_core.proofs.SeatLemmas.{free_stays}
 use Rattle.kte_run.specs.Schedule.{Due, Schedule, IsSettled, append_of, outcome_of, due_of, if_asked, asked_in, asked_for, depth_by, depth_after, WentWell, NoneFailed}
 use Rattle.kte_run.specs.Editor.{Part, IsOwn, IsAt, Follows, left, first_of, own}
-use Rattle.kte_run.specs.Alone.{NoneTaken, HaveWords, Alone, Asks, Drains}
+use Rattle.kte_run.specs.Alone.{NoneTaken, Alone, Asks, Drains}
 use Rattle.kte_run.proofs.EditorLemmas.{is_took, tells, came-command, came-close}
-use Rattle.kte_run.proofs.HistoryLemmas.{present-more, Alone-none, Alone-append, asked_in-append}
+use Rattle.kte_run.proofs.HistoryLemmas.{present-more, Alone-none, Alone-append, asked_in-append, append-settled}
 
 -- ---- one request of the editor
 
@@ -60,14 +57,6 @@ own-ranges (Deliver job findings) is = absurd is
 own-ranges (GiveBack job) is = absurd is
 own-ranges (Outcome call ok) is = absurd is
 
-own-words : (state : State) (request : Request) → IsOwn request → IsAllowed 0 request → Allows (λ job. HasWord job.rule) state 0 request
-own-words state (Cmd command) is allowed = λ rule asks still_open. subst InRange asks allowed.1
-own-words state Close is allowed = tt
-own-words state Take is allowed = absurd is
-own-words state (Deliver job findings) is allowed = absurd is
-own-words state (GiveBack job) is allowed = absurd is
-own-words state (Outcome call ok) is allowed = absurd is
-
 own-untaken : (state : State) (request : Request) (answer : Reply) → IsOwn request → state.closed ≡ false → cut_at answer ≡ None
     → IsAnswered state (own request answer) → is_took answer ≡ false
 own-untaken state (Cmd command) answer is still_open whole answered =
@@ -78,11 +67,6 @@ own-untaken state Take answer is still_open whole answered = absurd is
 own-untaken state (Deliver job findings) answer is still_open whole answered = absurd is
 own-untaken state (GiveBack job) answer is still_open whole answered = absurd is
 own-untaken state (Outcome call ok) answer is still_open whole answered = absurd is
-
--- nothing is called for by it but, perhaps, that a failed append is told
-append-settled : (finished : Option (List Primitive)) → IsSettled (append_of finished)
-append-settled None = tt
-append-settled (Some transaction) = tt
 
 outcome-settled : (request : Request) (due : Due) → IsOwn request → IsSettled due → IsSettled (outcome_of request due)
 outcome-settled (Cmd Sync) due is settled = absurd is
@@ -173,7 +157,6 @@ pub record Asking (commands : List Command) (before now : Session) (part : Part)
   pub ordered : asked_in added ++ left part ≡ asked_for commands
   pub at : IsAt (present now) part
   pub none_taken : NoneTaken (present now)
-  pub words : HaveWords (present now)
   pub few : Few (present now) (length added)
   pub count : length added + length (left part) ≡ length (asked_for commands)
 
@@ -192,7 +175,6 @@ Asking-none commands before part fresh is =
         closed = ap (λ (s : State). s.closed) state ∙ sym (ap (λ (p : Part). p.closed) is);
       };
       none_taken = subst NoneTaken (sym state) (none_first before.loaded before.limit);
-      words = subst HaveWords (sym state) (All-nil (λ (job : Job). HasWord job.rule));
       few = subst (λ (s : State). Few s 0) (sym state) (record { depth = omega arith; jobs = omega arith; ranges = omega arith });
       count = omega (arith, ap (λ (p : Part). length (left p)) is);
     } where
@@ -247,7 +229,6 @@ Asking-more commands before now next part later request answer asking first is a
           ∙ asking.ordered;
       at = subst (λ (s : State). IsAt s later) (sym is_next) follows.at;
       none_taken = subst NoneTaken (sym is_next) (λ seat. free_stays state last seat (asking.none_taken seat) (λ mine. own-take request is));
-      words = subst HaveWords (sym is_next) (event_keeps (λ job. HasWord job.rule) state last (own-words state request is allowed) asking.words);
       few = subst (λ (s : State). Few s (length (asking.added ++ last ∷ []))) (sym is_next)
           (record { depth = omega (arith, grown.depth); jobs = omega (arith, rises); ranges = omega (arith, grown.next_id) });
       count = omega (arith, asking.count, ap length follows.left);
@@ -269,11 +250,10 @@ Asking-all commands before now part asking few none =
       events = asking.events;
       alone = asking.alone;
       ordered = sym (append-nil (asked_in asking.added)) ∙ ap (λ (requests : List Request). asked_in asking.added ++ requests) (sym nothing_left) ∙ asking.ordered;
-      can = record {
+      can = record { depth = omega arith; jobs = omega arith; ranges = omega arith };
+      idle = record {
         closed = asking.at.closed ∙ left-closed part.commands part.depth part.closed part.failed none;
         none_taken = asking.none_taken;
-        words = asking.words;
-        room = record { depth = omega arith; jobs = omega arith; ranges = omega arith };
       };
     }
 

@@ -1,5 +1,5 @@
 -- What the replies of the core make of the editor's part.
-use Rattle.std.proofs.Common.{◌≡◌, ℕ, zero, suc, ◌-◌, ◌<◌, ◌==◌, Bool, true, false, List, [], ◌∷◌, Option, None, Some, if◌then◌else◌, refl, ap, sym, subst, ◌∙◌, inl, inr, arith}
+use Rattle.std.proofs.Common.{◌≡◌, ℕ, zero, suc, ◌<◌, ◌==◌, Bool, true, false, List, [], ◌∷◌, Option, None, Some, if◌then◌else◌, refl, ap, sym, subst, ◌∙◌, inl, inr, arith}
 use Rattle.std.specs.FinMap.{get}
 use Rattle.std.proofs.lemmas.Bool.{cases_Bool, eqb-true}
 use Rattle.kte_text.specs.declared.primitive.Primitive.{Primitive}
@@ -8,13 +8,12 @@ use Rattle.kte_place.specs.declared.span.Expand.{Expand}
 use Rattle.kte_place.specs.declared.span.Empty.{Empty}
 use Rattle.kte_history.specs.declared.lock.Owner.TheVariants as owner
 use Rattle.kte_history.specs.Locks.{has_lock}
-use Rattle.kte_undo.specs.Groups.{Edits, begun, closed, ended}
+use Rattle.kte_undo.specs.Groups.{closed}
 use Rattle.kte_undo.specs.Steps.{steps_along}
-use Rattle.kte_undo.specs.declared.step.Step.{Step}
 use Rattle.kte_edit.specs.Steps.{steps_of}
 use Rattle.kte_command.specs.declared.command.Command.{Command}
 use Rattle.kte_command.specs.declared.command.Command.TheVariants.{Edit, Begin, End, Undo, Redo, MakeRange, SetRange, DropRange, ShowRange, Lock, Unlock, Land, Check, Sync, Save}
-use Rattle.kte_core.specs.Editing.{EditReaction, text_of, judged, still_open, noted_all, noted_change, changed, undone, redone, undo_steps, redo_steps, change_refusal, group_refusal}
+use Rattle.kte_core.specs.Editing.{EditReaction, text_of, judged, still_open, changed, undone, redone, undo_steps, redo_steps, change_refusal, group_refusal}
 use Rattle.kte_core.specs.State.{State, Range, Reaction, refused, edited}
 use Rattle.kte_core.specs.React.{react_by, react_command, cut_at, set_range, drop_range, show_range, unlock, land, can_land_from, ask_outside, close}
 use Rattle.kte_core.specs.Replay.{IsAnswered, came_of, after_event}
@@ -24,27 +23,9 @@ use Rattle.kte_core.specs.declared.reply.Refusal.{Refusal}
 use Rattle.kte_core.specs.declared.reply.Refusal.TheVariants.{Closed}
 use Rattle.kte_core.specs.declared.request.Request.{Request}
 use Rattle.kte_core.specs.declared.request.Request.TheVariants.{Cmd, Close}
+use Rattle.kte_core.proofs.TransactionLemmas.{depth-ended, depth-noted}
 use Rattle.kte_run.specs.Schedule.{depth_by, asked_from}
 use Rattle.kte_run.specs.Editor.{Part, left, first_of, asked, depth_told, told, IsAt, Follows, own}
-
--- the depth after each step of the groups
-depth-closed : (steps : List Step) (edits : Edits) → (closed steps edits).depth ≡ edits.depth
-depth-closed [] edits = refl
-depth-closed (first ∷ steps) edits = refl
-
-depth-ended : (edits : Edits) → (ended edits).depth ≡ edits.depth - 1
-depth-ended edits =
-    elim (cases_Bool (edits.depth == 1)) [
-      | inl t ↦ rw t (depth-closed edits.current (record edits { depth = 0 }) ∙ omega (arith, eqb-true edits.depth 1 t))
-      | inr f ↦ rw f refl
-    ]
-
-depth-noted : (steps : List Step) (edits : Edits) → (noted_change steps edits).depth ≡ edits.depth
-depth-noted steps edits =
-    elim (cases_Bool (edits.depth == 0)) [
-      | inl t ↦ rw t (depth-ended (noted_all steps (begun edits)) ∙ omega arith)
-      | inr f ↦ rw f refl
-    ]
 
 -- the seat has taken a job
 abbrev pub is_took : Reply → Bool

@@ -1,10 +1,8 @@
 -- What is found in a text: so few places, and each in reach.
-use Rattle.std.proofs.Common.{◌≡◌, ◌∙◌, ℕ, ◌-◌, ◌≤◌, Result, Ok, Err, IfOk, List, [], length, get_or, All, Option, Some, None, refl, sym, subst, ap, arith}
-use Rattle.std.specs.Option.{option_map}
+use Rattle.std.proofs.Common.{ℕ, ◌≤◌, Result, Ok, Err, IfOk, List, [], length, get_or, All, sym, subst, ap, arith}
 use Rattle.std.proofs.lemmas.List.{length-take}
 use Rattle.std.proofs.lemmas.List.Elements.{All-take, Contains-get_or}
 use Rattle.std.proofs.lemmas.List.Sums.{get_or-le-sum_by}
-use Rattle.std.proofs.lemmas.Option.{slice_get_within, get_or_from_slice_get}
 use Rattle.kte_text.specs.Texts.{IsText}
 use Rattle.kte_place.specs.Ends.{Ends, SpanIsInReach}
 use Rattle.kte_find.specs.Rule.{HasWord}
@@ -12,9 +10,6 @@ use Rattle.kte_find.specs.Findings.{AreFindings, IsFinding}
 use Rattle.kte_find.specs.declared.found.TheConstants.{MAX_FINDINGS}
 use Rattle.kte_find.specs.declared.rule.Rule.{Rule}
 use Rattle.kte_find.proofs.LawLemmas.{finding_there, finding_same, finding_some, finding_within}
-use Rattle.kte_jobs.specs.Job.{Job}
-use Rattle.kte_jobs.specs.Jobs.{job_at, rule_of}
-use Rattle.kte_jobs.proofs.JobLemmas.{stands, job_at_number}
 
 -- a place that is found is in reach, since a text is small
 in_reach : (rule : Rule) (text : List (List ℕ)) (span : Ends) → HasWord rule → IsText text → IsFinding rule text span → SpanIsInReach span
@@ -37,18 +32,6 @@ all_in_reach rule text findings word is found =
 
 pub few_found : (rule : Rule) (text : List (List ℕ)) (findings : List Ends) → AreFindings rule text findings → length findings ≤ MAX_FINDINGS
 few_found rule text findings found = omega (arith, ap length found.first, length-take MAX_FINDINGS found.all)
-
--- the rule of a job has a word, if each job's has
-pub word_of : (jobs : List Job) (job : ℕ) (rule : Rule) → All (λ job. HasWord job.rule) jobs → rule_of jobs job ≡ Some rule → HasWord rule
-word_of jobs job rule words is = by_job (job_at jobs job) refl is where
-  by_job : (o : Option Job) → job_at jobs job ≡ o → option_map (λ job. job.rule) o ≡ Some rule → HasWord rule
-  by_job None at is = absurd (cc)
-  by_job (Some entry) at is =
-      let stand = stands jobs job entry.state (ap (option_map (λ (j : Job). j.state)) at) in
-      let here = sym (job_at_number jobs job stand.1) ∙ at in
-      let word = words (job - 1) entry (slice_get_within jobs (job - 1) entry here) in
-      let same : entry.rule ≡ rule = cc in
-      subst HasWord same (subst (λ (j : Job). HasWord j.rule) (get_or_from_slice_get jobs (job - 1) entry entry here) word)
 
 -- what holds of what is there holds of the rest
 pub on_ok : {T E : Type 0} (r : Result T E) (P Q : T → Type 0) → ((value : T) → P value → Q value) → IfOk r P → IfOk r Q

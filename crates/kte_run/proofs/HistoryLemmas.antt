@@ -1,12 +1,13 @@
 -- Events that the editor alone adds, one after another.
-use Rattle.std.proofs.Common.{◌≡◌, ◌∙◌, ℕ, Bool, true, false, List, [], ◌∷◌, ◌++◌, inl, if◌then◌else◌, nat_eq, refl, ap, sym, subst, append_assoc, append-nil}
+use Rattle.std.proofs.Common.{◌≡◌, ◌∙◌, ℕ, Bool, true, false, List, [], ◌∷◌, ◌++◌, inl, if◌then◌else◌, nat_eq, refl, ap, sym, subst, append_assoc, append-nil, Option, Some, None}
 use Rattle.std.proofs.lemmas.List.Elements.{filter_map-append, All-append, All-nil}
+use Rattle.kte_text.specs.declared.primitive.Primitive.{Primitive}
 use Rattle.kte_core.specs.State.{State}
 use Rattle.kte_core.specs.Replay.{Session, beginning, present, replay, after_event, came_of}
 use Rattle.kte_core.specs.declared.event.Event.{Event}
 use Rattle.kte_core.specs.declared.request.Request.{Request}
 use Rattle.kte_core.proofs.JournalLemmas.{replay-append, Legal-append}
-use Rattle.kte_run.specs.Schedule.{Due, nothing, append, outcome, delivery, AllFit, InTurn, IsDue, IsSettled, asked_in, if_asked, due_of, lost_by, WentWell}
+use Rattle.kte_run.specs.Schedule.{Due, nothing, append, outcome, delivery, AllFit, InTurn, IsDue, IsSettled, asked_in, if_asked, due_of, lost_by, WentWell, append_of}
 use Rattle.kte_run.specs.Alone.{Alone, Serves}
 
 -- the state after some events more
@@ -87,3 +88,8 @@ Serves-then before between after first second = record {
       (subst (λ (state : State). Alone state second.added) (present-more before between first.added first.events) second.alone);
   ordered = asked_in-append first.added second.added ∙ ap (λ asked. asked ++ asked_in second.added) first.ordered ∙ second.ordered;
 }
+
+-- what a finished transaction calls for is settled
+pub append-settled : (finished : Option (List Primitive)) → IsSettled (append_of finished)
+append-settled None = tt
+append-settled (Some transaction) = tt

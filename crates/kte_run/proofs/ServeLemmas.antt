@@ -1,15 +1,13 @@
 -- A job that the editor takes and delivers once the session is closed.
 use Rattle.std.proofs.lemmas.List.Elements.{All-nil, All-cons}
-use Rattle.std.proofs.Common.{◌≡◌, ◌≢◌, ◌∙◌, ℕ, suc, ◌+◌, ◌-◌, ◌*◌, ◌≤◌, Bool, true, false, List, [], ◌∷◌, ◌++◌, length, get_or, slice_get, All, Option, Some, None, Result, Ok, Err, IfOk, IsOk, if◌then◌else◌, inl, inr, refl, ap, sym, subst, append_assoc, arith}
+use Rattle.std.proofs.Common.{◌≡◌, ◌≢◌, ◌∙◌, ℕ, suc, ◌+◌, ◌-◌, ◌*◌, ◌≤◌, Bool, true, false, List, [], ◌∷◌, ◌++◌, length, get_or, slice_get, All, Some, None, Result, Ok, Err, IfOk, IsOk, if◌then◌else◌, inl, inr, refl, ap, sym, subst, append_assoc, arith}
 use Rattle.std.specs.List.{count_by}
 use Rattle.std.specs.Option.{option_map}
 use Rattle.std.specs.declared.alloc.AllocError.{AllocError}
 use Rattle.std.proofs.lemmas.Bool.{cases_eq, eq-eqb, true≢false}
 use Rattle.std.proofs.lemmas.List.Sums.{get_or-le-sum_by}
 use Rattle.std.proofs.lemmas.Option.{slice_get_within, slice_get-get_or, get_or_from_slice_get, none-some}
-use Rattle.kte_text.specs.declared.primitive.Primitive.{Primitive}
 use Rattle.kte_place.specs.Ends.{Ends}
-use Rattle.kte_find.specs.Rule.{HasWord}
 use Rattle.kte_find.specs.declared.found.TheConstants.{MAX_FINDINGS}
 use Rattle.kte_jobs.specs.declared.job.JobState.{JobState}
 use Rattle.kte_jobs.specs.declared.job.JobState.TheVariants.{Waiting, Taken, Done}
@@ -29,15 +27,15 @@ use Rattle.kte_core.specs.declared.reply.Reply.{Reply}
 use Rattle.kte_core.specs.declared.reply.Reply.TheVariants as reply
 use Rattle.kte_core.specs.declared.request.Request.{Request}
 use Rattle.kte_core.specs.declared.request.Request.TheVariants.{Take, Deliver, GiveBack}
-use Rattle.kte_core.proofs.AllJobLemmas.{event_keeps, length-with_state}
+use Rattle.kte_core.proofs.AllJobLemmas.{length-with_state}
 use Rattle.kte_core.proofs.OneJobLemmas.{waiting_state}
 use Rattle.kte_core.proofs.SeatLemmas.{closed_stays, untaken_stays}
 use Rattle.kte_core.proofs.TakeLemmas.{take_came, took, deliver_came, delivered_done, returned, returned_waits}
 use Rattle.kte_core.proofs.CountLemmas.{waiting_took, waiting_same}
-use Rattle.kte_run.specs.Schedule.{append_of, IsSettled, WentWell}
+use Rattle.kte_run.specs.Schedule.{WentWell}
 use Rattle.kte_run.specs.Editor.{own}
-use Rattle.kte_run.specs.Alone.{NoneTaken, HaveWords, HasRoom, CanDrain, Alone, Serves, Delivers}
-use Rattle.kte_run.proofs.HistoryLemmas.{present-more}
+use Rattle.kte_run.specs.Alone.{NoneTaken, HasRoom, CanDrain, IsIdle, Alone, Serves, Delivers}
+use Rattle.kte_run.proofs.HistoryLemmas.{present-more, append-settled}
 
 -- what comes of a request of the editor is an event that is answered
 pub answered_of : (state : State) (request : Request) (step : Step) (after : State) → IsAllowed 0 request → Reacts state 0 request step after
@@ -59,16 +57,15 @@ count_some jobs job least =
 pub numbers-take : (state : State) (job : ℕ) → CanDrain state → least_waiting state.jobs ≡ Some job → HasNumbers state Take
 numbers-take state job can least =
     let some = count_some state.jobs job least in
-    let room = can.room.ranges in
-    record { depth = can.room.depth; jobs = can.room.jobs; ranges = omega arith }
+    let room = can.ranges in
+    record { depth = can.depth; jobs = can.jobs; ranges = omega arith }
 
 -- what a Take of the editor makes of the state
 pub record Takes (state : State) (job : ℕ) (answer : Reply) (after : State) : Type 0 where
   pub reply : answer ≡ reply.Took job (revision_of state.editing)
   pub taken : taken_at after.jobs 0 job ≡ Some (revision_of after.editing)
-  pub others : (seat other : ℕ) → other ≢ job → taken_at after.jobs seat other ≡ None
-  pub closed : after.closed ≡ true
-  pub words : HaveWords after
+  pub others : NoneTaken state → (seat other : ℕ) → other ≢ job → taken_at after.jobs seat other ≡ None
+  pub closed : state.closed ≡ true → after.closed ≡ true
   pub room : HasRoom after (MAX_FINDINGS * (count_waiting after + 1))
   pub fewer : count_waiting after + 1 ≡ count_waiting state
 
@@ -85,16 +82,15 @@ takes state job answer can least answered =
     let long : length (after_event state event).jobs ≡ length state.jobs =
     ap (λ (c : Reaction). length c.after.jobs) came ∙ length-with_state state.jobs job (Taken 0 revision) in
     let depth = ap (λ (e : Editing). e.edits.depth) has.editing in
-    let room = can.room.ranges in
-    let depth_room = can.room.depth in
-    let jobs_room = can.room.jobs in
+    let room = can.ranges in
+    let depth_room = can.depth in
+    let jobs_room = can.jobs in
     record {
       reply = told;
       taken = has.taken ∙ ap (λ (e : Editing). Some (revision_of e)) (sym has.editing);
-      others = λ seat other apart. untaken_stays state event seat other (can.none_taken seat other)
+      others = λ none seat other apart. untaken_stays state event seat other (none seat other)
           (λ mine asked found. apart (let both : Some job ≡ Some other = sym least ∙ found in cc));
-      closed = closed_stays state event can.closed;
-      words = event_keeps (λ job. HasWord job.rule) state event (λ entry word. word) can.words;
+      closed = closed_stays state event;
       room = record { depth = omega arith; jobs = omega arith; ranges = omega arith };
       fewer = fewer;
     }
@@ -151,13 +147,15 @@ given_back state after job revision (Ok step) is reacts taken others =
 pub record Finishes (state : State) (job : ℕ) (findings : List Ends) (answer : Reply) : Type 0 where
   pub reply : answer ≡ reply.Delivered job state.next_id (length findings)
   pub can : CanDrain (after_event state (own (Deliver job findings) answer))
+  pub none : ((seat other : ℕ) → other ≢ job → taken_at state.jobs seat other ≡ None)
+      → NoneTaken (after_event state (own (Deliver job findings) answer))
+  pub closed : state.closed ≡ true → (after_event state (own (Deliver job findings) answer)).closed ≡ true
   pub same : count_waiting (after_event state (own (Deliver job findings) answer)) ≡ count_waiting state
 
 pub finishes : (state : State) (job revision : ℕ) (findings : List Ends) (answer : Reply) → taken_at state.jobs 0 job ≡ Some revision
-    → ((seat other : ℕ) → other ≢ job → taken_at state.jobs seat other ≡ None) → state.closed ≡ true → HaveWords state
     → HasRoom state (MAX_FINDINGS * (count_waiting state + 1)) → length findings ≤ MAX_FINDINGS
     → IsAnswered state (own (Deliver job findings) answer) → Finishes state job findings answer
-finishes state job revision findings answer taken others shut words has_room few answered =
+finishes state job revision findings answer taken has_room few answered =
     let event : Event = own (Deliver job findings) answer in
     let came : came_of state event ≡ deliver state job findings (Some revision) =
     deliver_came state event job findings answered refl ∙ ap (deliver state job findings) taken in
@@ -173,23 +171,15 @@ finishes state job revision findings answer taken others shut words has_room few
     let jobs_room = has_room.jobs in
     record {
       reply = told;
-      can = record {
-        closed = closed_stays state event shut;
-        none_taken = λ seat other. elim (cases_eq other job) [
-          | inl same ↦ subst (λ (n : ℕ). taken_at (after_event state event).jobs seat n ≡ None) (sym same)
-              (untaken-done (after_event state event).jobs seat job has.done)
-          | inr apart ↦ untaken_stays state event seat other (others seat other apart) (λ mine asked found. cc)
-        ];
-        words = event_keeps (λ job. HasWord job.rule) state event (λ entry word. word) words;
-        room = record { depth = omega arith; jobs = omega arith; ranges = omega arith };
-      };
+      can = record { depth = omega arith; jobs = omega arith; ranges = omega arith };
+      none = λ others seat other. elim (cases_eq other job) [
+        | inl same ↦ subst (λ (n : ℕ). taken_at (after_event state event).jobs seat n ≡ None) (sym same)
+            (untaken-done (after_event state event).jobs seat job has.done)
+        | inr apart ↦ untaken_stays state event seat other (others seat other apart) (λ mine asked found. cc)
+      ];
+      closed = closed_stays state event;
       same = same;
     }
-
--- what a finished transaction calls for is settled
-append-settled : (finished : Option (List Primitive)) → IsSettled (append_of finished)
-append-settled None = tt
-append-settled (Some transaction) = tt
 
 -- a Take and its delivery, once the session is closed
 pair-alone : (state : State) (job revision number count : ℕ) (findings : List Ends) → IsLegal state (own Take (reply.Took job revision))
@@ -229,8 +219,10 @@ pair-served state job revision number count findings took_by given_by took_is gi
 
 -- what a Take and a delivery of the editor make of a session
 pub record Served (before after : Session) : Type 0 where
-  pub serves : Serves before after
+  pub serves : IsIdle (present before) → Serves before after
   pub can : CanDrain (present after)
+  pub none : NoneTaken (present before) → NoneTaken (present after)
+  pub closed : (present before).closed ≡ true → (present after).closed ≡ true
   pub fewer : count_waiting (present after) + 1 ≡ count_waiting (present before)
 
 pub served : (before between after : Session) (job : ℕ) (answer : Reply) → CanDrain (present before) → least_waiting (present before).jobs ≡ Some job
@@ -245,19 +237,21 @@ served before between after job answer can least is answered delivers =
     let took = takes state job answer can least answered in
     let legal : IsLegal (after_event state first) second = subst (λ (s : State). IsLegal s second) between_is delivers.legal in
     let done = finishes (after_event state first) job (revision_of (after_event state first).editing) delivers.findings delivers.reply
-    took.taken took.others took.closed took.words took.room delivers.few legal.answered in
+    took.taken took.room delivers.few legal.answered in
     let at_end : present after ≡ after_event (after_event state first) second = after_is ∙ ap (λ (s : State). after_event s second) between_is in
     record {
-      serves = record {
+      serves = λ idle. record {
         added = first ∷ second ∷ [];
         events = delivers.events
             ∙ ap (λ (session : Session). record session { events = session.events ++ second ∷ [] }) is
             ∙ ap (λ (events : List Event). record before { events = events }) (append_assoc before.events (first ∷ []) (second ∷ []));
         alone = pair-served state job (revision_of state.editing) (after_event state first).next_id (length delivers.findings) delivers.findings
-            answer delivers.reply took.reply done.reply (record { answered = answered; finds = tt }) legal can.closed;
+            answer delivers.reply took.reply done.reply (record { answered = answered; finds = tt }) legal idle.closed;
         ordered = refl;
       };
       can = subst CanDrain (sym at_end) done.can;
+      none = λ none. subst NoneTaken (sym at_end) (done.none (took.others none));
+      closed = λ shut. ap (λ (s : State). s.closed) at_end ∙ done.closed (took.closed shut);
       fewer = ap (λ (s : State). count_waiting s + 1) at_end ∙ ap (λ n. n + 1) done.same ∙ took.fewer;
     }
 

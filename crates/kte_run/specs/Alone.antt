@@ -3,7 +3,6 @@
 use Rattle.std.specs.Prelude.{◌≡◌, ℕ, ◌+◌, ◌-◌, ◌*◌, ◌<◌, ◌≤◌, ◌^◌, Bool, true, List, [], ◌∷◌, ◌++◌, length, All}
 use Rattle.kte_place.specs.Ends.{Ends}
 use Rattle.kte_command.specs.declared.command.Command.{Command}
-use Rattle.kte_find.specs.Rule.{HasWord}
 use Rattle.kte_find.specs.declared.found.TheConstants.{MAX_FINDINGS}
 use Rattle.kte_jobs.specs.declared.job.JobState.TheVariants.{Done}
 use Rattle.kte_core.specs.State.{State}
@@ -19,10 +18,6 @@ use Rattle.kte_run.specs.Editor.{own}
 abbrev pub NoneTaken : State → Type 0
 NoneTaken state = (seat : ℕ) → IsFree state seat
 
--- a job whose rule looks for a word has one
-abbrev pub HaveWords : State → Type 0
-HaveWords state = All (λ job. HasWord job.rule) state.jobs
-
 -- Events that the editor alone may add to a state, whether the swap file is lost or not: each of
 -- its requests is called for, and in the end nothing is left to be told or delivered
 pub record Alone (state : State) (events : List Event) : Type 0 where
@@ -37,13 +32,14 @@ pub record HasRoom (state : State) (more : ℕ) : Type 0 where
   pub jobs : length state.jobs < 2 ^ 32 - 1
   pub ranges : state.next_id + more ≤ 2 ^ 63
 
--- The jobs can be done by the editor: the session is closed, nobody works on one, and there are
--- numbers for what they find
-pub record CanDrain (state : State) : Type 0 where
+-- there are numbers for what the jobs that wait find
+abbrev pub CanDrain : State → Type 0
+CanDrain state = HasRoom state (MAX_FINDINGS * count_waiting state)
+
+-- the session is closed, and nobody works on a job
+pub record IsIdle (state : State) : Type 0 where
   pub closed : state.closed ≡ true
   pub none_taken : NoneTaken state
-  pub words : HaveWords state
-  pub room : HasRoom state (MAX_FINDINGS * count_waiting state)
 
 -- jobs are taken and delivered at once by the editor, and nothing else is added
 pub record Serves (before after : Session) : Type 0 where
@@ -64,6 +60,7 @@ pub record Asks (commands : List Command) (before after : Session) : Type 0 wher
   pub alone : Alone (present before) added
   pub ordered : asked_in added ≡ asked_for commands
   pub can : CanDrain (present after)
+  pub idle : IsIdle (present after)
 
 -- what is delivered of a job is added, which is what its rule finds
 pub record Delivers (job : ℕ) (before after : Session) : Type 0 where

@@ -9,7 +9,7 @@ ghost use Rattle.kte_core.specs.Editing.{revision_of, text_of};
 ghost use Rattle.kte_core.specs.Jobs.{taken_at};
 ghost use Rattle.kte_core.specs.JobsInWords.{count_waiting};
 ghost use Rattle.kte_core.specs.Replay.{beginning, present};
-ghost use Rattle.kte_run.specs.Alone.{Asks, CanDrain, Delivers, Drains, HasRoom, HaveWords, NoneTaken, Serves};
+ghost use Rattle.kte_run.specs.Alone.{Asks, CanDrain, Delivers, Drains, HasRoom, IsIdle, NoneTaken, Serves};
 ghost use Rattle.kte_script.specs.Limits.{IsScripted};
 ghost use Rattle.kte_run.specs.Schedule.{NoneFailed, Schedule};
 
@@ -68,14 +68,10 @@ fn ask_all<D: Disk>(
 
 /// Takes each job that waits, the least first, and delivers what its rule finds. If out of memory,
 /// the job that was taken is given back.
-pub(crate) fn drain<K: Checker>(
-    alloc: Global,
-    core: &mut Core,
-    checker: &K,
-) -> Result<(), AllocError>
+pub fn drain<K: Checker>(alloc: Global, core: &mut Core, checker: &K) -> Result<(), AllocError>
     requires { CanDrain (present core.old) }
-    ensures ok { OnOk result (Drains core.old core.new) }
-    ensures err { OnErr result (NoneTaken (present core.new)) }
+    ensures ok { OnOk result (IsIdle (present core.old) → Drains core.old core.new) }
+    ensures err { OnErr result (NoneTaken (present core.old) → NoneTaken (present core.new)) }
     // Where no job waits no memory is needed.
     ensures idle { least_waiting (present core.old).jobs ≡ None → IsOk result }
 {
@@ -95,11 +91,13 @@ fn serve<K: Checker>(
 ) -> Result<(), AllocError>
     requires can { CanDrain (present core.old) }
     requires least { least_waiting (present core.old).jobs ≡ Some job }
-    ensures ok { OnOk result (Serves core.old core.new) }
+    ensures ok { OnOk result (IsIdle (present core.old) → Serves core.old core.new) }
+    ensures idle { OnOk result (IsIdle (present core.old) → IsIdle (present core.new)) }
+    ensures none { OnOk result (NoneTaken (present core.old) → NoneTaken (present core.new)) }
     ensures can { OnOk result (CanDrain (present core.new)) }
     ensures fewer { OnOk result
         (count_waiting (present core.new) + 1 ≡ count_waiting (present core.old)) }
-    ensures err { OnErr result (NoneTaken (present core.new)) }
+    ensures err { OnErr result (NoneTaken (present core.old) → NoneTaken (present core.new)) }
 {
     core.step(alloc, 0, Request::Take)?;
     match deliver(alloc, core, checker, job) {
@@ -122,7 +120,6 @@ fn deliver<K: Checker>(
 ) -> Result<(), AllocError>
     requires taken { taken_at (present core.old).jobs 0 job
         ≡ Some (revision_of (present core.old).editing) }
-    requires words { HaveWords (present core.old) }
     requires room { HasRoom (present core.old) MAX_FINDINGS }
     ensures ok { OnOk result (Delivers job core.old core.new) }
     ensures err { OnErr result (core.new ≡ core.old) }
@@ -134,7 +131,6 @@ fn deliver<K: Checker>(
 
 /// Returns what the rule of a job finds in the present text.
 fn find<K: Checker>(alloc: Global, core: &Core, checker: &K, job: u32) -> Result<Spans, AllocError>
-    requires { HaveWords (present core.now) }
     ensures found { (rule : Rule) → rule_of (present core.now).jobs job ≡ Some rule
         → IfOk result (λ findings.
         AreFindings rule (text_of (present core.now).editing) findings) }

@@ -7,7 +7,7 @@
 //!
 //! - `program`: `run`, from the words to the status, and `edit_alone`
 //! - `editor`: the editor's part in a run, which tells the next request
-//! - `alone`: the editor's part and a core on one thread, and the jobs after them
+//! - `alone`: the editor's part and a core on one thread, and [`drain`], which does the jobs
 //! - `saved`: the file that is read
 //! - `status`: the statuses, their codes and their lines
 //! - `laws`: what follows from the definitions alone
@@ -26,6 +26,7 @@ mod status;
 #[cfg(test)]
 mod tests;
 
+pub use alone::drain;
 pub use program::{edit_alone, run};
 pub use status::Status;
 

@@ -1,17 +1,15 @@
-use Rattle.std.proofs.Common.{◌∙◌, length, ◌≤◌, All, Option, Bor, ap, sym}
-use Rattle.std.specs.Option.{option_copied}
+use Rattle.std.proofs.Common.{length, ◌≤◌, All, Option, Bor, IfSome, subst}
+use Rattle.kte_find.specs.Rule.{HasWord}
 use Rattle.kte_find.specs.declared.rule.Rule.{Rule}
 use Rattle.kte_place.specs.Ends.{SpanIsInReach}
 use Rattle.kte_find.specs.Findings.{AreFindings}
 use Rattle.kte_find.specs.declared.found.TheConstants.{MAX_FINDINGS}
-use Rattle.kte_core.specs.Replay.{present}
-use Rattle.kte_run.proofs.FoundLemmas.{all_in_reach, few_found, word_of, on_ok}
+use Rattle.kte_run.proofs.FoundLemmas.{all_in_reach, few_found, on_ok}
 use Rattle.kte_run.proofs.alone.find.Goals as goal
 
 pub returns-in-Some-clause-reach : goal.returns-in-Some-clause-reach
 returns-in-Some-clause-reach g c =
-    let word = word_of (present c.args.core.now).jobs c.args.job c.in-Some.rule.now c.requires
-    (sym c.rule.ensures.value ∙ ap (λ (found : Option (Bor Rule)). option_copied found) c.in-Some.is) in
+    let word = subst (λ (found : Option (Bor Rule)). IfSome found (λ rule. HasWord rule.now)) c.in-Some.is c.rule.ensures.word in
     on_ok c.check.result (λ findings. AreFindings c.in-Some.rule.now c.in_ok-text.text findings) (λ findings. All SpanIsInReach findings)
     (λ findings. all_in_reach c.in-Some.rule.now c.in_ok-text.text findings word c.lines-lines.ensures.is_text) c.check.ensures
 

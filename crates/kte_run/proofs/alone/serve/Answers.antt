@@ -15,10 +15,6 @@ pub deliver-requires-clause-taken : goal.deliver-requires-clause-taken
 deliver-requires-clause-taken g c =
     (takes_by (present c.args.core.now) (present c.step.new.self) c.args.job c.in_ok-step.field-0 c.requires.can c.requires.least c.in_ok-step.ensures.reacts).taken
 
-pub deliver-requires-clause-words : goal.deliver-requires-clause-words
-deliver-requires-clause-words g c =
-    (takes_by (present c.args.core.now) (present c.step.new.self) c.args.job c.in_ok-step.field-0 c.requires.can c.requires.least c.in_ok-step.ensures.reacts).words
-
 pub deliver-requires-clause-room : goal.deliver-requires-clause-room
 deliver-requires-clause-room g c =
     room-one (present c.step.new.self) (count_waiting (present c.step.new.self))
@@ -31,12 +27,12 @@ step-requires-in-Err-clause-numbers g c =
     c.in_ok-step.ensures.reacts c.in-Err.ensures.err).room
 
 pub returns-in-Err-clause-err : goal.returns-in-Err-clause-err
-returns-in-Err-clause-err g c =
+returns-in-Err-clause-err g c = λ none.
     let held = takes_still (present c.args.core.now) c.step.new.self c.deliver.new.core c.args.job c.in_ok-step.field-0 c.requires.can c.requires.least
     c.in_ok-step.ensures.reacts c.in-Err.ensures.err in
     given_back (present c.deliver.new.core) (present c.step-in-Err.new.self) c.args.job (revision_of (present c.deliver.new.core).editing)
     c.step-in-Err.result (c.step-in-Err.ensures.returns c.args.job (revision_of (present c.deliver.new.core).editing) refl held.taken)
-    c.step-in-Err.ensures.reacts held.taken held.others
+    c.step-in-Err.ensures.reacts held.taken (held.others none)
 
 -- the job was delivered
 done : (g : Over) (c : In-Ok g) → Served c.args.core.now c.deliver.new.core
@@ -54,3 +50,9 @@ returns-in-Ok-clause-can g c = (done g c).can
 
 pub returns-in-Ok-clause-fewer : goal.returns-in-Ok-clause-fewer
 returns-in-Ok-clause-fewer g c = (done g c).fewer
+
+pub returns-in-Ok-clause-none : goal.returns-in-Ok-clause-none
+returns-in-Ok-clause-none g c = (done g c).none
+
+pub returns-in-Ok-clause-idle : goal.returns-in-Ok-clause-idle
+returns-in-Ok-clause-idle g c = λ idle. record { closed = (done g c).closed idle.closed; none_taken = (done g c).none idle.none_taken }
