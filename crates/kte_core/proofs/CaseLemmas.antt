@@ -1,5 +1,5 @@
 -- What comes of a request, case by case: the jobs, the close, the locks of jobs, and the trail.
-use Rattle.std.proofs.Common.{◌≡◌, ◌≢◌, ℕ, ◌+◌, ◌-◌, ◌≤◌, ◌==◌, ◌||◌, Bool, true, false, List, [], ◌∷◌, ◌++◌, length, length-append, take, Option, Some, None, refl, ap, sym, ◌∙◌, arith, append-nil, if◌then◌else◌}
+use Rattle.std.proofs.Common.{◌≡◌, ◌≢◌, ℕ, ◌+◌, ◌≤◌, ◌||◌, Bool, true, false, List, [], ◌∷◌, ◌++◌, length, length-append, take, Option, Some, None, refl, ap, sym, ◌∙◌, arith, append-nil, if◌then◌else◌}
 use Rattle.std.specs.FinMap.{get}
 use Rattle.std.proofs.lemmas.Bool.{cond_both, ne_eqb, eqb-true, and_parts, and_left, true≢false}
 use Rattle.std.proofs.lemmas.List.Folds.{list_any-append}
@@ -11,12 +11,11 @@ use Rattle.kte_history.specs.declared.lock.Owner.TheVariants as owner
 use Rattle.kte_history.specs.Locks.{has_lock, is_owner, is_lock_of, unlocked}
 use Rattle.kte_edit.specs.Steps.{steps_of}
 use Rattle.kte_undo.specs.Steps.{steps_along}
-use Rattle.kte_undo.specs.Groups.{Edits, begun, ended, closed, gone_back, gone_forth}
-use Rattle.kte_undo.specs.declared.step.Step.{Step}
+use Rattle.kte_undo.specs.Groups.{Edits, gone_back, gone_forth}
 use Rattle.kte_jobs.specs.Jobs.{least_waiting}
 use Rattle.kte_command.specs.declared.command.Command.{Command}
 use Rattle.kte_command.specs.declared.command.Command.TheVariants as command
-use Rattle.kte_core.specs.Editing.{Editing, EditReaction, text_of, revision_of, judged, carried, not_open, still_open, change_refusal, group_refusal, changed, undone, redone, undo_steps, redo_steps, closing, noted_all, noted_change, cut_reaction, change_reaction, begin_reaction, end_reaction, undo_reaction, redo_reaction}
+use Rattle.kte_core.specs.Editing.{Editing, EditReaction, text_of, revision_of, judged, carried, not_open, still_open, change_refusal, group_refusal, changed, undone, redone, undo_steps, redo_steps, closing, noted_change, cut_reaction, change_reaction, begin_reaction, end_reaction, undo_reaction, redo_reaction}
 use Rattle.kte_core.specs.State.{Range, State, Reaction, refused, edited}
 use Rattle.kte_core.specs.Jobs.{taken_at, take_job, deliver, give_back}
 use Rattle.kte_core.specs.React.{react, react_by, react_command, react_cut, close, cut_at, set_range, drop_range, show_range, unlock, land, can_land_from, ask_outside}
@@ -31,6 +30,7 @@ use Rattle.kte_core.specs.declared.reply.Refusal.{Refusal}
 use Rattle.kte_core.specs.declared.reply.Refusal.TheVariants.{Closed}
 use Rattle.kte_core.specs.declared.request.Request.{Request}
 use Rattle.kte_core.specs.declared.request.Request.TheVariants.{Cmd, Close, Take, Deliver, GiveBack, Outcome}
+use Rattle.kte_core.proofs.TransactionLemmas.{depth-ended, depth-noted}
 
 -- ---- locks
 
@@ -174,22 +174,6 @@ event_changes state event = changes state event.seat event.request (cut_at event
 
 -- ---- the trail
 
-depth_closed : (steps : List Step) (edits : Edits) → (closed steps edits).depth ≡ edits.depth
-depth_closed [] edits = refl
-depth_closed (step ∷ steps) edits = refl
-
-depth_ended : (edits : Edits) → (ended edits).depth ≤ edits.depth
-depth_ended edits =
-    cond_both (edits.depth == 1) (closed edits.current (record edits { depth = 0 })) (record edits { depth = edits.depth - 1 })
-    (λ (e : Edits). e.depth ≤ edits.depth)
-    (λ one. omega (arith, depth_closed edits.current (record edits { depth = 0 }))) (λ more. omega arith)
-
-depth_noted : (steps : List Step) (edits : Edits) → (noted_change steps edits).depth ≤ edits.depth + 1
-depth_noted steps edits =
-    cond_both (edits.depth == 0) (ended (noted_all steps (begun edits))) (noted_all steps edits)
-    (λ (e : Edits). e.depth ≤ edits.depth + 1)
-    (λ none. depth_ended (noted_all steps (begun edits))) (λ some. omega arith)
-
 grows-refused : (state : State) (request : Request) (cause : Refusal) → Grows state request (refused state cause)
 grows-refused state request cause = record { loaded = refl; limit = refl; trail = sym (append-nil _); depth = omega arith; next_id = omega arith }
 
@@ -212,7 +196,7 @@ makes-carried told editing ps edits depth = record { loaded = refl; limit = refl
 makes-changed : (told : ℕ → ℕ → ℕ → Reply) (editing : Editing) (ps : List Primitive) → Makes editing (changed told editing ps)
 makes-changed told editing ps =
     makes-carried told editing ps (noted_change (steps_along ps (text_of editing)) editing.edits)
-    (depth_noted (steps_along ps (text_of editing)) editing.edits)
+    (omega (arith, depth-noted (steps_along ps (text_of editing)) editing.edits))
 
 makes-undone : (told : ℕ → ℕ → ℕ → Reply) (editing : Editing) (ps : List Primitive) → Makes editing (undone told editing ps)
 makes-undone told editing ps = makes-carried told editing ps (gone_back (length ps) editing.edits) (omega arith)
@@ -274,7 +258,7 @@ grows-command state command.Begin =
     grows-edited state _ (begin_reaction state.editing) (record { loaded = refl; limit = refl; trail = sym (append-nil _); depth = omega arith })
 grows-command state command.End =
     grows-edited state _ _ (makes-judged (not_open state.editing.edits.depth) state.editing (closing state.editing)
-    (record { loaded = refl; limit = refl; trail = sym (append-nil _); depth = omega (arith, depth_ended state.editing.edits) }))
+    (record { loaded = refl; limit = refl; trail = sym (append-nil _); depth = omega (arith, depth-ended state.editing.edits) }))
 grows-command state command.Undo =
     grows-edited state _ _ (makes-judged (group_refusal state.editing state.editing.edits.undo (undo_steps state.editing)) state.editing _
     (makes-undone reply.Edited state.editing (undo_steps state.editing)))

@@ -1,15 +1,10 @@
 -- How many jobs wait, after an event.
-use Rattle.std.proofs.Common.{◌≡◌, ◌≢◌, ℕ, ◌+◌, ◌-◌, ◌≤◌, true, false, List, set, Some, ap, sym, ◌∙◌, arith, if◌then◌else◌}
-use Rattle.std.specs.Prelude.{count_by}
+use Rattle.std.proofs.Common.{◌≡◌, ◌≢◌, ℕ, ◌+◌, ◌≤◌, true, false, List, ap, sym, ◌∙◌, arith, if◌then◌else◌}
 use Rattle.std.proofs.lemmas.Bool.{true≢false}
-use Rattle.std.proofs.lemmas.Option.{get_or_from_slice_get, slice_get_within}
-use Rattle.std.proofs.lemmas.List.Sums.{sum_by-set, sum_by_push}
+use Rattle.std.proofs.lemmas.List.Sums.{sum_by_push}
 use Rattle.kte_find.specs.declared.rule.Rule.{Rule}
-use Rattle.kte_jobs.specs.declared.job.JobState.{JobState}
 use Rattle.kte_jobs.specs.declared.job.JobState.TheVariants.{Waiting, Taken, Done}
 use Rattle.kte_jobs.specs.Job.{Job, is_waiting}
-use Rattle.kte_jobs.specs.Jobs.{state_of, with_state}
-use Rattle.kte_jobs.proofs.JobLemmas.{stands, changed}
 use Rattle.kte_command.specs.declared.command.Command.TheVariants.{Check}
 use Rattle.kte_core.specs.Editing.{revision_of}
 use Rattle.kte_core.specs.State.{State, Reaction, refused}
@@ -24,26 +19,13 @@ use Rattle.kte_core.specs.declared.reply.Refusal.TheVariants.{Closed}
 use Rattle.kte_core.specs.declared.request.Request.{Request}
 use Rattle.kte_core.specs.declared.request.Request.TheVariants.{Cmd, Take, GiveBack}
 use Rattle.kte_core.proofs.CaseLemmas.{event_changes}
+use Rattle.kte_core.proofs.JobLemmas.{count_in, count-set}
 use Rattle.kte_core.proofs.OneJobLemmas.{taken_state, waiting_state}
 use Rattle.kte_core.proofs.SeatLemmas.{whole_came}
 use Rattle.kte_core.proofs.TakeLemmas.{take_came, took, return_came, returned_waits}
 
-abbrev one_if : JobState → ℕ
-one_if state = if is_waiting state then 1 else 0
-
 abbrev waiting_in : List Job → ℕ
-waiting_in jobs = count_by (λ job. is_waiting job.state) jobs
-
--- one job's new state
-count-set : (jobs : List Job) (number : ℕ) (old new : JobState) → state_of jobs number ≡ Some old
-    → waiting_in (with_state jobs number new) + one_if old ≡ waiting_in jobs + one_if new
-count-set jobs number old new there =
-    let at = stands jobs number old there in
-    let value : Job → ℕ = λ job. if is_waiting job.state then 1 else 0 in
-    let is = get_or_from_slice_get jobs (number - 1) at.0 at.0 at.2 in
-    let summed = sum_by-set value jobs (number - 1) (record at.0 { state = new }) at.0 (slice_get_within jobs (number - 1) at.0 at.2) in
-    ap (λ js. waiting_in js + one_if old) (changed jobs number new at.0 at.1 at.2)
-    ∙ (ap (λ n. waiting_in (set jobs (number - 1) (record at.0 { state = new })) + n) (sym (ap value is ∙ ap one_if at.3)) ∙ summed)
+waiting_in jobs = count_in is_waiting jobs
 
 -- how the number of jobs that wait changes
 data Counts (state : State) (seat : ℕ) (request : Request) (came : Reaction) : Type 0 where
@@ -61,13 +43,13 @@ counts-by state seat request came (posts rule asked open_now so) =
     ∙ sum_by_push (λ (job : Job). if is_waiting job.state then 1 else 0) state.jobs (record { rule = rule; state = Waiting }))
 counts-by state seat request came (takes job asked least so) =
     let new = Taken seat (revision_of state.editing) in
-    let set = count-set state.jobs job Waiting new (waiting_state state.jobs job least) in
+    let set = count-set is_waiting state.jobs job Waiting new (waiting_state state.jobs job least) in
     less asked (ap (λ (c : Reaction). waiting_in c.after.jobs + 1) so ∙ (omega (arith, set)))
 counts-by state seat request came (finishes job at findings asked taken so) =
-    let set = count-set state.jobs job (Taken seat at) Done (taken_state state.jobs seat job at taken) in
+    let set = count-set is_waiting state.jobs job (Taken seat at) Done (taken_state state.jobs seat job at taken) in
     same (ap (λ (c : Reaction). waiting_in c.after.jobs) so ∙ (omega (arith, set)))
 counts-by state seat request came (returns job at asked taken so) =
-    let set = count-set state.jobs job (Taken seat at) Waiting (taken_state state.jobs seat job at taken) in
+    let set = count-set is_waiting state.jobs job (Taken seat at) Waiting (taken_state state.jobs seat job at taken) in
     back job asked (ap (λ (c : Reaction). waiting_in c.after.jobs) so ∙ (omega (arith, set)))
 
 event_counts : (state : State) (event : Event) → Counts state event.seat event.request (came_of state event)
@@ -107,7 +89,7 @@ pub waiting_took : (state : State) (event : Event) (job revision : ℕ) → IsAn
     → event.reply ≡ reply.Took job revision → count_waiting (after_event state event) + 1 ≡ count_waiting state
 waiting_took state event job revision answered asked told =
     let has = took state event job revision answered asked told in
-    let set = count-set state.jobs job Waiting (Taken event.seat (revision_of state.editing)) (waiting_state state.jobs job has.least) in
+    let set = count-set is_waiting state.jobs job Waiting (Taken event.seat (revision_of state.editing)) (waiting_state state.jobs job has.least) in
     ap (λ (c : Reaction). waiting_in c.after.jobs + 1) (take_came state event answered asked)
     ∙ (ap (λ o. waiting_in (take_job state event.seat o).after.jobs + 1) has.least ∙ (omega (arith, set)))
 
@@ -116,7 +98,7 @@ pub waiting_returned : (state : State) (event : Event) (job number : ℕ) → Is
     → event.reply ≡ reply.Returned number → count_waiting (after_event state event) ≡ count_waiting state + 1
 waiting_returned state event job number answered asked told =
     let has = returned_waits state event job number answered asked told in
-    let set = count-set state.jobs job (Taken event.seat has.revision) Waiting (taken_state state.jobs event.seat job has.revision has.taken) in
+    let set = count-set is_waiting state.jobs job (Taken event.seat has.revision) Waiting (taken_state state.jobs event.seat job has.revision has.taken) in
     ap (λ (c : Reaction). waiting_in c.after.jobs) (return_came state event job answered asked)
     ∙ (ap (λ o. waiting_in (give_back state job o).after.jobs) has.taken ∙ (omega (arith, set)))
 

@@ -12,17 +12,21 @@ use Rattle.kte_history.specs.declared.fault.RevisionsFull as fault
 use Rattle.kte_edit.specs.Steps.{steps_of, change_misfit}
 use Rattle.kte_edit.specs.declared.change.Change.{Change}
 use Rattle.kte_edit.specs.declared.change.StepsFault.{StepsFault}
-use Rattle.kte_undo.specs.Steps.{steps_along, undo_of, redo_of}
-use Rattle.kte_undo.specs.Groups.{Edits, last_of, gone_back, gone_forth}
+use Rattle.kte_undo.specs.Steps.{steps_along}
+use Rattle.kte_undo.specs.Groups.{Edits}
 use Rattle.kte_undo.specs.declared.step.Step.{Step as UndoStep}
 use Rattle.kte_undo.specs.declared.groups.UndoFault.{UndoFault}
 use Rattle.kte_command.specs.declared.command.Command.{Command}
 use Rattle.kte_command.specs.declared.command.Command.TheVariants as command
 use Rattle.kte_core.specs.Editing.{Editing, EditReaction, text_of, revision_of, judged, full, carried, noted_change, change_refusal, group_refusal, changed}
+use Rattle.kte_core.specs.Groups.{command_of, groups_to, group_steps, gone}
 use Rattle.kte_core.specs.State.{State, Reaction, edited}
 use Rattle.kte_core.specs.React.{react_command, cut_at, CutsBetween}
 use Rattle.kte_core.specs.Shown.{IsAfter, IsOf, IsRefused, Meets, Carries, react_open}
+use Rattle.kte_core.specs.declared.edits.Direction.{Direction}
+use Rattle.kte_core.specs.declared.edits.Direction.TheVariants.{Back, Forth}
 use Rattle.kte_core.specs.declared.event.Step.{Step}
+use Rattle.kte_core.specs.declared.reply.Reply.{Reply}
 use Rattle.kte_core.specs.declared.reply.Reply.TheVariants as reply
 use Rattle.kte_core.specs.declared.reply.Refusal.{Refusal}
 use Rattle.kte_core.specs.declared.reply.Refusal.TheVariants as refusal
@@ -304,36 +308,38 @@ group_fits : (state : State) (document : Document) (edits : Edits) (groups : Lis
 group_fits state document edits groups ps is_of same shut some enough =
     group_is state.editing groups ps (sym (ap (λ (e : Edits). e.depth) same) ∙ shut) some ∙ full_not state document ps is_of enough
 
--- a group is undone
-pub calls_undo : (state : State) (document : Document) (edits : Edits) → IsOf state document → edits ≡ state.editing.edits
-    → edits.depth ≡ 0 → 0 < length edits.undo
-    → nat_le (document.revision + length (undo_of (last_of edits.undo))) document.limit ≡ true
-    → Calls state command.Undo (undo_of (last_of edits.undo)) (λ ps. gone_back (length ps) edits)
-calls_undo state document edits is_of same shut some enough =
-    let editing = state.editing in
-    let undoing : Edits → Option Refusal → EditReaction = λ e j. judged j editing (carried reply.Edited editing (undo_of (last_of e.undo)) (gone_back (length (undo_of (last_of e.undo))) e)) in
-    let none : group_refusal editing edits.undo (undo_of (last_of edits.undo)) ≡ None =
-    group_fits state document edits edits.undo (undo_of (last_of edits.undo)) is_of same shut some enough in
-    record {
-      whole = ap (λ (e : Edits). edited state (undoing e (group_refusal editing e.undo (undo_of (last_of e.undo))))) (sym same)
-          ∙ ap (λ (j : Option Refusal). edited state (undoing edits j)) none;
-      part = λ n. ap (λ (e : Edits). edited state (carried reply.Cut editing (take n (undo_of (last_of e.undo))) (gone_back (length (take n (undo_of (last_of e.undo)))) e))) (sym same);
-    }
+-- what comes of an undo or a redo of these primitives
+abbrev pub moved : Direction → (ℕ → ℕ → ℕ → Reply) → Editing → List Primitive → EditReaction
+moved direction told editing ps = carried told editing ps (gone direction (length ps) editing.edits)
 
--- a group is redone
-pub calls_redo : (state : State) (document : Document) (edits : Edits) → IsOf state document → edits ≡ state.editing.edits
-    → edits.depth ≡ 0 → 0 < length edits.redo
-    → nat_le (document.revision + length (redo_of (last_of edits.redo))) document.limit ≡ true
-    → Calls state command.Redo (redo_of (last_of edits.redo)) (λ ps. gone_forth (length ps) edits)
-calls_redo state document edits is_of same shut some enough =
+pub group_reacts : (direction : Direction) (state : State) → react_command state (command_of direction)
+    ≡ edited state (judged (group_refusal state.editing (groups_to direction state.editing.edits) (group_steps direction state.editing.edits))
+    state.editing (moved direction reply.Edited state.editing (group_steps direction state.editing.edits)))
+group_reacts Back state = refl
+group_reacts Forth state = refl
+
+pub group_cut : (direction : Direction) (state : State) (n : ℕ) → react_open state (command_of direction) (Some n)
+    ≡ edited state (moved direction reply.Cut state.editing (take n (group_steps direction state.editing.edits)))
+group_cut Back state n = refl
+group_cut Forth state n = refl
+
+-- a group is undone or redone
+pub calls_group : (direction : Direction) (state : State) (document : Document) (edits : Edits) → IsOf state document
+    → edits ≡ state.editing.edits → edits.depth ≡ 0 → 0 < length (groups_to direction edits)
+    → nat_le (document.revision + length (group_steps direction edits)) document.limit ≡ true
+    → Calls state (command_of direction) (group_steps direction edits) (λ ps. gone direction (length ps) edits)
+calls_group direction state document edits is_of same shut some enough =
     let editing = state.editing in
-    let redoing : Edits → Option Refusal → EditReaction = λ e j. judged j editing (carried reply.Edited editing (redo_of (last_of e.redo)) (gone_forth (length (redo_of (last_of e.redo))) e)) in
-    let none : group_refusal editing edits.redo (redo_of (last_of edits.redo)) ≡ None =
-    group_fits state document edits edits.redo (redo_of (last_of edits.redo)) is_of same shut some enough in
+    let ps = group_steps direction edits in
+    let going : Edits → Option Refusal → EditReaction = λ e j. judged j editing (carried reply.Edited editing (group_steps direction e) (gone direction (length (group_steps direction e)) e)) in
+    let none : group_refusal editing (groups_to direction edits) ps ≡ None =
+    group_fits state document edits (groups_to direction edits) ps is_of same shut some enough in
     record {
-      whole = ap (λ (e : Edits). edited state (redoing e (group_refusal editing e.redo (redo_of (last_of e.redo))))) (sym same)
-          ∙ ap (λ (j : Option Refusal). edited state (redoing edits j)) none;
-      part = λ n. ap (λ (e : Edits). edited state (carried reply.Cut editing (take n (redo_of (last_of e.redo))) (gone_forth (length (take n (redo_of (last_of e.redo)))) e))) (sym same);
+      whole = group_reacts direction state
+          ∙ ap (λ (e : Edits). edited state (going e (group_refusal editing (groups_to direction e) (group_steps direction e)))) (sym same)
+          ∙ ap (λ (j : Option Refusal). edited state (going edits j)) none;
+      part = λ n. group_cut direction state n
+          ∙ ap (λ (e : Edits). edited state (carried reply.Cut editing (take n (group_steps direction e)) (gone direction (length (take n (group_steps direction e))) e))) (sym same);
     }
 
 -- a change whose primitives are listed fits
@@ -366,33 +372,33 @@ if_ok_from (Ok step) P h = h
 if_ok_from (Err e) P h = absurd h
 
 -- an undo or a redo that is refused for want of a group
-pub Meets-no_group : (command : Command) (groups : Edits → List (List UndoStep)) (steps : Editing → List Primitive)
-    (reaction : Editing → EditReaction)
-    → ((state : State) → react_command state command
-    ≡ edited state (judged (group_refusal state.editing (groups state.editing.edits) (steps state.editing)) state.editing (reaction state.editing)))
-    → (result : Result Step AllocError) (given : UndoFault) (document : Document) (edits now : Edits) → now ≡ edits
+pub Meets-no_group : (direction : Direction) (result : Result Step AllocError) (given : UndoFault) (document : Document) (edits now : Edits) → now ≡ edits
     → ((depth : ℕ) → given ≡ UndoFault.StillOpen depth → (depth ≡ edits.depth) × (0 < depth))
-    → (given ≡ UndoFault.Nothing → (edits.depth ≡ 0) × (groups edits ≡ []))
+    → (given ≡ UndoFault.Nothing → (edits.depth ≡ 0) × (groups_to direction edits ≡ []))
     → ((depth : ℕ) → given ≡ UndoFault.StillOpen depth → IsOkAnd result (IsRefused (refusal.StillOpen depth)))
     → (given ≡ UndoFault.Nothing → IsOkAnd result (IsRefused refusal.Nothing))
     → (given ≡ UndoFault.NoMemory → IsErr result)
-    → IfOk result (λ step. (state : State) → IsOf state document → edits ≡ state.editing.edits → Meets state command step document now state.jobs)
-Meets-no_group command groups steps reaction is result (UndoFault.StillOpen depth) document edits now kept opened none tells_open tells_none memory =
+    → IfOk result (λ step. (state : State) → IsOf state document → edits ≡ state.editing.edits
+    → Meets state (command_of direction) step document now state.jobs)
+Meets-no_group direction result (UndoFault.StillOpen depth) document edits now kept opened none tells_open tells_none memory =
     if_ok result (IsRefused (refusal.StillOpen depth)) _
     (λ step refuses state is_of same.
     let at = opened depth refl in
-    Meets-refused state command document now (refusal.StillOpen depth) step _ (reaction state.editing) is_of (kept ∙ same) refuses
-    (group_is_open state.editing (groups state.editing.edits) (steps state.editing) depth (at.0 ∙ ap (λ (e : Edits). e.depth) same) at.1) (is state))
+    Meets-refused state (command_of direction) document now (refusal.StillOpen depth) step _
+    (moved direction reply.Edited state.editing (group_steps direction state.editing.edits)) is_of (kept ∙ same) refuses
+    (group_is_open state.editing (groups_to direction state.editing.edits) (group_steps direction state.editing.edits) depth
+    (at.0 ∙ ap (λ (e : Edits). e.depth) same) at.1) (group_reacts direction state))
     (if_ok_from result _ (tells_open depth refl))
-Meets-no_group command groups steps reaction is result UndoFault.Nothing document edits now kept opened none tells_open tells_none memory =
+Meets-no_group direction result UndoFault.Nothing document edits now kept opened none tells_open tells_none memory =
     if_ok result (IsRefused refusal.Nothing) _
     (λ step refuses state is_of same.
     let at = none refl in
-    Meets-refused state command document now refusal.Nothing step _ (reaction state.editing) is_of (kept ∙ same) refuses
-    (group_is_none state.editing (groups state.editing.edits) (steps state.editing) (sym (ap (λ (e : Edits). e.depth) same) ∙ at.0)
-    (sym (ap groups same) ∙ at.1)) (is state))
+    Meets-refused state (command_of direction) document now refusal.Nothing step _
+    (moved direction reply.Edited state.editing (group_steps direction state.editing.edits)) is_of (kept ∙ same) refuses
+    (group_is_none state.editing (groups_to direction state.editing.edits) (group_steps direction state.editing.edits)
+    (sym (ap (λ (e : Edits). e.depth) same) ∙ at.0) (sym (ap (groups_to direction) same) ∙ at.1)) (group_reacts direction state))
     (if_ok_from result _ (tells_none refl))
-Meets-no_group command groups steps reaction is result UndoFault.NoMemory document edits now kept opened none tells_open tells_none memory =
+Meets-no_group direction result UndoFault.NoMemory document edits now kept opened none tells_open tells_none memory =
     IfOk-from_err result _ (memory refl)
 
 -- a cause is none or some

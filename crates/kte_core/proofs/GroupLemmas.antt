@@ -162,9 +162,10 @@ split_last groups some =
     let whole : take (length groups - 1 + 1) groups ≡ groups = take_all (length groups - 1 + 1) groups (omega arith) in
     sym whole ∙ take_more groups (length groups - 1) [] (omega arith)
 
--- a transaction is opened
-pub fit-begun : (edits : Edits) (text : List (List ℕ)) → GroupsFit edits text → GroupsFit (begun edits) text
-fit-begun edits text fit = record {
+-- another depth, which is 0 only where there are no steps in the open group
+fit-depth : (edits : Edits) (text : List (List ℕ)) (depth : ℕ) → (depth ≡ 0 → edits.current ≡ []) → GroupsFit edits text
+    → GroupsFit (record edits { depth = depth }) text
+fit-depth edits text depth shut fit = record {
   oldest = fit.oldest;
   opened = fit.opened;
   newest = fit.newest;
@@ -173,8 +174,12 @@ fit-begun edits text fit = record {
   redo = fit.redo;
   undo_filled = fit.undo_filled;
   redo_filled = fit.redo_filled;
-  shut = λ zero. absurd (omega arith);
+  shut = shut;
 }
+
+-- a transaction is opened
+pub fit-begun : (edits : Edits) (text : List (List ℕ)) → GroupsFit edits text → GroupsFit (begun edits) text
+fit-begun edits text fit = fit-depth edits text (edits.depth + 1) (λ zero. absurd (omega arith)) fit
 
 -- steps are noted in the open group
 pub fit-noted : (edits : Edits) (steps : List Step) (text later : List (List ℕ)) → 0 < edits.depth → GroupsFit edits text → Leads steps text later
@@ -194,17 +199,7 @@ fit-noted edits steps text later inside fit leads = record {
 -- the outermost transaction is closed
 fit-closed : (steps : List Step) (edits : Edits) (text : List (List ℕ)) → edits.current ≡ steps → GroupsFit edits text
     → GroupsFit (closed steps (record edits { depth = 0 })) text
-fit-closed [] edits text is fit = record {
-  oldest = fit.oldest;
-  opened = fit.opened;
-  newest = fit.newest;
-  undo = fit.undo;
-  current = fit.current;
-  redo = fit.redo;
-  undo_filled = fit.undo_filled;
-  redo_filled = fit.redo_filled;
-  shut = λ zero. is;
-}
+fit-closed [] edits text is fit = fit-depth edits text 0 (λ zero. is) fit
 fit-closed (first ∷ steps) edits text is fit =
     let group = first ∷ steps in
     let whole = Leads-text edits.current fit.opened text fit.current in
@@ -222,26 +217,12 @@ fit-closed (first ∷ steps) edits text is fit =
       shut = λ zero. refl;
     }
 
--- an inner one is closed
-fit-inner : (edits : Edits) (text : List (List ℕ)) (depth : ℕ) → 0 < depth → GroupsFit edits text → GroupsFit (record edits { depth = depth }) text
-fit-inner edits text depth inside fit = record {
-  oldest = fit.oldest;
-  opened = fit.opened;
-  newest = fit.newest;
-  undo = fit.undo;
-  current = fit.current;
-  redo = fit.redo;
-  undo_filled = fit.undo_filled;
-  redo_filled = fit.redo_filled;
-  shut = λ zero. absurd (omega arith);
-}
-
 pub fit-ended : (edits : Edits) (text : List (List ℕ)) → 0 < edits.depth → GroupsFit edits text → GroupsFit (ended edits) text
 fit-ended edits text inside fit =
     elim (cases_Bool (edits.depth == 1)) [
       | inl t ↦ rw t (fit-closed edits.current edits text refl fit)
       | inr f ↦ let two : 0 < edits.depth - 1 = omega (arith, eqb-false edits.depth 1 f) in
-          rw f (fit-inner edits text (edits.depth - 1) two fit)
+          rw f (fit-depth edits text (edits.depth - 1) (λ zero. absurd (omega arith)) fit)
     ]
 
 -- a change is made

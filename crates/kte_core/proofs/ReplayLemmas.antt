@@ -1,5 +1,5 @@
 -- What one more event makes of a replay.
-use Rattle.std.proofs.Common.{◌≡◌, ℕ, ◌+◌, ◌-◌, ◌<◌, ◌≤◌, ◌^◌, false, List, [], ◌∷◌, ◌++◌, length, Some, refl, ap, sym, subst, ◌∙◌, arith, append-nil, append_assoc}
+use Rattle.std.proofs.Common.{◌≡◌, ℕ, ◌+◌, ◌-◌, ◌<◌, ◌≤◌, ◌^◌, false, List, [], ◌∷◌, ◌++◌, length, refl, ap, sym, subst, ◌∙◌, arith, append-nil, append_assoc}
 use Rattle.std.specs.Option.{option_map, option_to_list}
 use Rattle.std.specs.Ordering.{nat_cmp}
 use Rattle.std.specs.FinMap.{get, empty, get-empty}
@@ -21,7 +21,7 @@ use Rattle.kte_core.specs.Groups.{GroupsFit, IsFilled}
 use Rattle.kte_core.specs.State.{State, Reaction}
 use Rattle.kte_core.specs.React.{react, react_by, cut_at, CutsBetween}
 use Rattle.kte_core.specs.Requests.{IsAllowed}
-use Rattle.kte_core.specs.Replay.{Session, beginning, present, replay, came_of, after_event, transactions, primitives_in, IsAnswered, Answered}
+use Rattle.kte_core.specs.Replay.{Session, beginning, present, replay, came_of, after_event, transactions, primitives_in, Answered}
 use Rattle.kte_core.specs.Shown.{range_of, IsOf, Answers, Reacts, Shows}
 use Rattle.kte_core.specs.Jobs.{AreLocked, KeepsRevisions, taken_at}
 use Rattle.kte_core.specs.Kept.{owed, kept_after}
@@ -34,23 +34,11 @@ use Rattle.kte_core.specs.declared.event.Event.{Event}
 use Rattle.kte_core.specs.declared.event.Step.{Step}
 use Rattle.kte_core.specs.declared.reply.Reply.{Reply}
 use Rattle.kte_core.proofs.GroupLemmas.{Leads-none}
-use Rattle.std.proofs.lemmas.Option.{slice_get_within}
-use Rattle.kte_jobs.specs.declared.job.JobState.TheVariants.{Taken}
-use Rattle.kte_jobs.proofs.JobLemmas.{stands}
-use Rattle.kte_core.proofs.JobLemmas.{taken_state}
-use Rattle.kte_core.proofs.RisesLemmas.{rises, owed_within}
+use Rattle.kte_core.proofs.CaseLemmas.{event_grows}
+use Rattle.kte_core.proofs.JournalLemmas.{replay-append, follows-replay, Answered-one_more}
+use Rattle.kte_core.proofs.KeptLemmas.{keeps-beginning, keeps-event}
+use Rattle.kte_core.proofs.RisesLemmas.{owes, owed_within}
 use Rattle.kte_core.proofs.TransactionLemmas.{Parts, parts-by}
-
--- one event more is one reaction more
-pub replay-push : (state : State) (events : List Event) (event : Event) → replay state (events ++ event ∷ []) ≡ after_event (replay state events) event
-replay-push state [] event = refl
-replay-push state (first ∷ events) event = replay-push (after_event state first) events event
-
--- a journal stays answered by one more event that is
-pub Answered-push : (state : State) (events : List Event) (event : Event) → Answered state events → IsAnswered (replay state events) event
-    → Answered state (events ++ event ∷ [])
-Answered-push state [] event answered last = (last, tt)
-Answered-push state (first ∷ events) event answered last = (answered.0, Answered-push (after_event state first) events event answered.1 last)
 
 -- one more event finishes one transaction at most
 transactions-push : (state : State) (events : List Event) (event : Event)
@@ -60,19 +48,6 @@ transactions-push state (first ∷ events) event =
     ap (λ (t : List (List Primitive)). option_to_list (came_of state first).finished ++ t) (transactions-push (after_event state first) events event)
     ∙ sym (append_assoc (option_to_list (came_of state first).finished) (transactions (after_event state first) events)
     (option_to_list (came_of (replay (after_event state first) events) event).finished))
-
-pub loaded-replay : (state : State) (events : List Event) → (replay state events).editing.loaded ≡ state.editing.loaded
-loaded-replay state [] = refl
-loaded-replay state (event ∷ events) =
-    loaded-replay (after_event state event) events ∙ (rises state event.seat event.request (cut_at event.reply)).loaded
-
--- without jobs none is taken
-none_kept : (state : State) → state.jobs ≡ [] → KeepsRevisions state
-none_kept state none = λ job seat revision taken.
-    let is : taken_at [] seat job ≡ Some revision = ap (λ (js : List Job). taken_at js seat job) (sym none) ∙ taken in
-    let at = stands [] job (Taken seat revision) (taken_state [] seat job revision is) in
-    let within = slice_get_within [] (job - 1) at.0 at.2 in
-    absurd (omega arith)
 
 -- a core without events is sound where its document is the loaded text
 pub IsSound-new : (core : Inside) → core.journal.events ≡ [] → IsText core.loaded.text → CameBy core.loaded.text [] core.present.doc
@@ -107,7 +82,7 @@ IsSound-new core none whole came limit ranges next_id locks edits jobs closed ke
         closed = closed;
       });
       fit = subst (λ (e : Edits). GroupsFit e core.present.doc.text) (sym edits) (subst (λ (t : List (List ℕ)). GroupsFit (record { depth = 0; current = []; undo = []; redo = [] }) t) (sym text) fit);
-      locked = rw none (none_kept (beginning core.loaded core.limit) refl);
+      locked = rw none (keeps-beginning core.loaded core.limit);
       kept = rw none kept;
       room = room;
       answered = rw none tt;
@@ -161,26 +136,25 @@ IsSound-step core later event step sound loaded limit journal allowed reply answ
     ap (λ (l : Loaded). beginning l later.limit) loaded ∙ ap (beginning core.loaded) limit in
     let after : answers.after ≡ came.after = answers.reacts.leads ∙ ap (λ (r : Reaction). r.after) is in
     let now : present (session_of later) ≡ came.after =
-    ap (λ (s : State). replay s later.journal.events) start ∙ ap (replay first) journal ∙ replay-push first core.journal.events event in
+    ap (λ (s : State). replay s later.journal.events) start ∙ ap (replay first) journal ∙ replay-append first core.journal.events (event ∷ []) in
     let shown : Shows came.after later.present = subst (λ (s : State). Shows s later.present) after answers.shows in
     let cut : CutsBetween (react state event.seat event.request).made (cut_at event.reply) =
     subst (λ (r : Reply). CutsBetween (react state event.seat event.request).made (cut_at r)) (sym reply) answers.reacts.cut in
     let replied : event.reply ≡ came.reply = reply ∙ answers.reacts.reply ∙ ap (λ (r : Reaction). r.reply) is in
-    let rising = rises state event.seat event.request (cut_at event.reply) in
     let turn : FitInTurn came.after.editing.trail state.editing.loaded.text =
-    subst (λ (l : Loaded). FitInTurn came.after.editing.trail l.text) rising.loaded shown.document.came.fits in
+    subst (λ (l : Loaded). FitInTurn came.after.editing.trail l.text) (event_grows state event).loaded shown.document.came.fits in
     let parts = parts-by state event.seat event.request (cut_at event.reply) (λ shut. shut_sound core sound shut) cut turn in
     let parted = parted-push first core.journal.events event sound.parted parts in
     record {
       shows = subst (λ (s : State). Shows s later.present) (sym now) shown;
       fit = fit;
-      locked = subst KeepsRevisions (sym now) (rising.locked sound.locked);
+      locked = subst KeepsRevisions (sym now) (keeps-event state event sound.locked);
       kept = kept ∙ ap (λ (n : ℕ). kept_after n step.reply) sound.kept
           ∙ ap (kept_after (owed state)) (answers.reacts.reply ∙ ap (λ (r : Reaction). r.reply) is)
-          ∙ sym rising.owes ∙ ap owed (sym now);
+          ∙ sym (owes state event.seat event.request (cut_at event.reply)) ∙ ap owed (sym now);
       room = room;
       answered = subst (λ (s : State). Answered s later.journal.events) (sym start) (subst (Answered first) (sym journal)
-          (Answered-push first core.journal.events event sound.answered (record { allowed = allowed; reply = replied; cut = cut })));
+          (Answered-one_more first core.journal.events event sound.answered (record { allowed = allowed; reply = replied; cut = cut })));
       parted = ap (λ (s : State). s.editing.trail) now ∙ parted
           ∙ ap (λ (events : List Event). primitives_in (transactions first events) ++ redo_of came.after.editing.edits.current) (sym journal)
           ∙ ap (λ (s : State). primitives_in (transactions s later.journal.events) ++ redo_of came.after.editing.edits.current) (sym start)
@@ -197,7 +171,7 @@ Reacts-push session later event step after loaded limit events reply reacts =
     let start : beginning later.loaded later.limit ≡ first =
     ap (λ (l : Loaded). beginning l later.limit) loaded ∙ ap (beginning session.loaded) limit in
     let now : present later ≡ (came_of state event).after =
-    ap (λ (s : State). replay s later.events) start ∙ ap (replay first) events ∙ replay-push first session.events event in
+    ap (λ (s : State). replay s later.events) start ∙ ap (replay first) events ∙ replay-append first session.events (event ∷ []) in
     record {
       reply = reacts.reply;
       made = reacts.made;
@@ -256,7 +230,7 @@ pub saved_sound : (core : Inside) (session : Session) → IsSound core → sessi
     → bytes_of core.present.doc.text core.loaded.eol core.loaded.bom ≡ saved_form (present session).editing
 saved_sound core session sound same =
     let now = present (session_of core) in
-    let loaded : now.editing.loaded ≡ core.loaded = loaded-replay (beginning core.loaded core.limit) core.journal.events in
+    let loaded : now.editing.loaded ≡ core.loaded = (follows-replay (beginning core.loaded core.limit) core.journal.events).loaded in
     ap (λ (text : List (List ℕ)). bytes_of text core.loaded.eol core.loaded.bom) sound.shows.document.came.text
     ∙ ap (λ (l : Loaded). bytes_of (text_of now.editing) l.eol l.bom) (sym loaded)
     ∙ ap (λ (s : Session). saved_form (present s).editing) same
@@ -264,4 +238,4 @@ saved_sound core session sound same =
 -- what was loaded stays, so a state knows its line end and its mark
 pub loaded_sound : (core : Inside) (session : Session) → session_of core ≡ session → core.loaded ≡ (present session).editing.loaded
 loaded_sound core session same =
-    sym (loaded-replay (beginning core.loaded core.limit) core.journal.events) ∙ ap (λ (s : Session). (present s).editing.loaded) same
+    sym (follows-replay (beginning core.loaded core.limit) core.journal.events).loaded ∙ ap (λ (s : Session). (present s).editing.loaded) same

@@ -22,16 +22,19 @@ use Rattle.kte_edit.specs.Steps.{IsChange, change_misfit, steps_of, further, ins
 use Rattle.kte_edit.specs.declared.change.Change.{Change}
 use Rattle.kte_edit.proofs.ChangeLemmas.{sound_change}
 use Rattle.kte_undo.specs.Steps.{steps_along, redo_of}
-use Rattle.kte_undo.specs.Groups.{Edits, last_of, gone_back, gone_forth}
+use Rattle.kte_undo.specs.Groups.{Edits, last_of}
 use Rattle.kte_undo.specs.declared.step.Step.{Step}
 use Rattle.kte_command.specs.declared.command.Command.{Command}
 use Rattle.kte_command.specs.declared.command.Command.TheVariants.{Edit, Begin, End, Undo, Redo, MakeRange, SetRange, DropRange, ShowRange, Lock, Unlock, Land, Check, Sync, Save}
-use Rattle.kte_core.specs.Editing.{Editing, EditReaction, text_of, judged, full, carried, not_open, still_open, change_refusal, group_refusal, changed, undone, redone, undo_steps, redo_steps, closing, noted_change, cut_reaction}
-use Rattle.kte_core.specs.Groups.{Leads, GroupsFit, IsFilled}
+use Rattle.kte_core.specs.Editing.{Editing, EditReaction, text_of, judged, full, carried, not_open, still_open, change_refusal, group_refusal, changed, closing, noted_change, cut_reaction}
+use Rattle.kte_core.specs.Groups.{Leads, GroupsFit, IsFilled, command_of, groups_to, group_steps, gone}
 use Rattle.kte_core.specs.State.{State, Reaction, edited}
 use Rattle.kte_core.specs.React.{react, react_by, react_command, cut_at, CutsBetween, can_land_from}
 use Rattle.kte_core.specs.Replay.{beginning, replay, came_of, after_event, transactions, primitives_in, Answered}
 use Rattle.kte_core.specs.Requests.{HoldsChange, IsWhole}
+use Rattle.kte_core.specs.Shown.{react_open}
+use Rattle.kte_core.specs.declared.edits.Direction.{Direction}
+use Rattle.kte_core.specs.declared.edits.Direction.TheVariants.{Back, Forth}
 use Rattle.kte_core.specs.declared.event.Event.{Event}
 use Rattle.kte_core.specs.declared.reply.Reply.{Reply}
 use Rattle.kte_core.specs.declared.reply.Reply.TheVariants as reply
@@ -39,9 +42,10 @@ use Rattle.kte_core.specs.declared.reply.Refusal.{Refusal}
 use Rattle.kte_core.specs.declared.reply.Refusal.TheVariants as refusal
 use Rattle.kte_core.specs.declared.request.Request.{Request}
 use Rattle.kte_core.specs.declared.request.Request.TheVariants.{Cmd, Close, Take, Deliver, GiveBack, Outcome}
-use Rattle.kte_core.proofs.GroupLemmas.{FitInTurn-take, Leads-text, Leads-back, Leads-forth, Leads-none, fit-begun, fit-ended, fits_change, last_filled}
-use Rattle.kte_core.proofs.UndoLemmas.{Undoing, Redoing, undo_fits, redo_fits, fits_undone, fits_redone, length-undo_of, length-redo_of}
-use Rattle.kte_core.proofs.RisesLemmas.{rises}
+use Rattle.kte_core.proofs.GroupLemmas.{FitInTurn-take, Leads-text, Leads-back, Leads-forth, Leads-none, fit-begun, fit-ended, fits_change}
+use Rattle.kte_core.proofs.EditLemmas.{moved, group_reacts, group_cut}
+use Rattle.kte_core.proofs.UndoLemmas.{Going, group_fits_text, fits_gone, has_steps}
+use Rattle.kte_core.proofs.CaseLemmas.{event_grows}
 use Rattle.kte_core.proofs.TransactionLemmas.{IsStill, Parts, parts-by, IsCommand, quiet_unless, unless, within_open, no_cut, not_refused, no_end, open_unless, shut_unless, still-outside, still-set, still-drop, still-show, still-unlock, still-land, uncut}
 
 -- the insertions of a change are lines
@@ -149,67 +153,56 @@ group_unless editing [] ps none =
     ]
 group_unless editing (group ∷ groups) ps none = omega arith
 
-undoing_of : (editing : Editing) → IsSteady editing → group_refusal editing editing.edits.undo (undo_steps editing) ≡ None
-    → Undoing editing.edits (text_of editing) (undo_steps editing)
-undoing_of editing steady none = record {
+going_of : (direction : Direction) (editing : Editing) → IsSteady editing
+    → group_refusal editing (groups_to direction editing.edits) (group_steps direction editing.edits) ≡ None
+    → Going direction editing.edits (text_of editing) (group_steps direction editing.edits)
+going_of direction editing steady none = record {
   fit = steady.fit;
-  shut = shut_unless editing editing.edits.undo (undo_steps editing) none;
-  some = group_unless editing editing.edits.undo (undo_steps editing) none;
+  shut = shut_unless editing (groups_to direction editing.edits) (group_steps direction editing.edits) none;
+  some = group_unless editing (groups_to direction editing.edits) (group_steps direction editing.edits) none;
   all = refl;
 }
 
-steady-undone : (told : ℕ → ℕ → ℕ → Reply) (editing : Editing) (n : ℕ) → IsSteady editing
-    → group_refusal editing editing.edits.undo (undo_steps editing) ≡ None → 0 < n → n ≤ length (undo_steps editing)
-    → IsSteady (undone told editing (take n (undo_steps editing))).after
-steady-undone told editing n steady none some within =
-    let all = undo_steps editing in
+steady-moved : (direction : Direction) (told : ℕ → ℕ → ℕ → Reply) (editing : Editing) (n : ℕ) → IsSteady editing
+    → group_refusal editing (groups_to direction editing.edits) (group_steps direction editing.edits) ≡ None
+    → 0 < n → n ≤ length (group_steps direction editing.edits)
+    → IsSteady (moved direction told editing (take n (group_steps direction editing.edits))).after
+steady-moved direction told editing n steady none some within =
+    let all = group_steps direction editing.edits in
     let ps = take n all in
-    let undoing = undoing_of editing steady none in
+    let going = going_of direction editing steady none in
     let long : length ps ≡ n = length-take-le n all within in
-    steady-made editing ps (gone_back (length ps) editing.edits) steady (FitInTurn-take n all (text_of editing) (undo_fits editing.edits (text_of editing) all undoing))
-    (fits_undone editing.edits (gone_back (length ps) editing.edits) (text_of editing) (after_all ps (text_of editing)) all n undoing some within
-    (ap (λ (k : ℕ). gone_back k editing.edits) long) refl)
+    steady-made editing ps (gone direction (length ps) editing.edits) steady
+    (FitInTurn-take n all (text_of editing) (group_fits_text direction editing.edits (text_of editing) all going))
+    (fits_gone direction editing.edits (gone direction (length ps) editing.edits) (text_of editing) (after_all ps (text_of editing)) all n going some within
+    (ap (λ (k : ℕ). gone direction k editing.edits) long) refl)
 
-steady-undo : (editing : Editing) → IsSteady editing → group_refusal editing editing.edits.undo (undo_steps editing) ≡ None
-    → IsSteady (undone reply.Edited editing (undo_steps editing)).after
-steady-undo editing steady none =
-    let all = undo_steps editing in
-    let undoing = undoing_of editing steady none in
-    let long = length-undo_of (last_of editing.edits.undo) in
-    let some = last_filled editing.edits.undo undoing.some steady.fit.undo_filled in
-    subst (λ (ps : List Primitive). IsSteady (undone reply.Edited editing ps).after) (take_all (length all) all (omega arith))
-    (steady-undone reply.Edited editing (length all) steady none (omega arith) (omega arith))
+-- what comes of an undo or a redo
+steady-go : (direction : Direction) (state : State) → IsSteady state.editing → IsSteady (react_command state (command_of direction)).after.editing
+steady-go direction state steady =
+    let editing = state.editing in
+    let all = group_steps direction editing.edits in
+    subst (λ (r : Reaction). IsSteady r.after.editing) (sym (group_reacts direction state))
+    (steady-judged (group_refusal editing (groups_to direction editing.edits) all) editing (moved direction reply.Edited editing all) steady
+    (λ none.
+    let some = (has_steps direction editing.edits (text_of editing) all (going_of direction editing steady none)).some in
+    subst (λ (ps : List Primitive). IsSteady (moved direction reply.Edited editing ps).after) (take_all (length all) all (omega arith))
+    (steady-moved direction reply.Edited editing (length all) steady none some (omega arith))))
 
-redoing_of : (editing : Editing) → IsSteady editing → group_refusal editing editing.edits.redo (redo_steps editing) ≡ None
-    → Redoing editing.edits (text_of editing) (redo_steps editing)
-redoing_of editing steady none = record {
-  fit = steady.fit;
-  shut = shut_unless editing editing.edits.redo (redo_steps editing) none;
-  some = group_unless editing editing.edits.redo (redo_steps editing) none;
-  all = refl;
-}
-
-steady-redone : (told : ℕ → ℕ → ℕ → Reply) (editing : Editing) (n : ℕ) → IsSteady editing
-    → group_refusal editing editing.edits.redo (redo_steps editing) ≡ None → 0 < n → n ≤ length (redo_steps editing)
-    → IsSteady (redone told editing (take n (redo_steps editing))).after
-steady-redone told editing n steady none some within =
-    let all = redo_steps editing in
-    let ps = take n all in
-    let redoing = redoing_of editing steady none in
-    let long : length ps ≡ n = length-take-le n all within in
-    steady-made editing ps (gone_forth (length ps) editing.edits) steady (FitInTurn-take n all (text_of editing) (redo_fits editing.edits (text_of editing) all redoing))
-    (fits_redone editing.edits (gone_forth (length ps) editing.edits) (text_of editing) (after_all ps (text_of editing)) all n redoing some within
-    (ap (λ (k : ℕ). gone_forth k editing.edits) long) refl)
-
-steady-redo : (editing : Editing) → IsSteady editing → group_refusal editing editing.edits.redo (redo_steps editing) ≡ None
-    → IsSteady (redone reply.Edited editing (redo_steps editing)).after
-steady-redo editing steady none =
-    let all = redo_steps editing in
-    let redoing = redoing_of editing steady none in
-    let long = length-redo_of (last_of editing.edits.redo) in
-    let some = last_filled editing.edits.redo redoing.some steady.fit.redo_filled in
-    subst (λ (ps : List Primitive). IsSteady (redone reply.Edited editing ps).after) (take_all (length all) all (omega arith))
-    (steady-redone reply.Edited editing (length all) steady none (omega arith) (omega arith))
+-- .. also where memory runs out
+steady-go_cut : (direction : Direction) (state : State) (n : ℕ) → IsSteady state.editing → 0 < n
+    → n < length (react_command state (command_of direction)).made
+    → IsSteady (react_open state (command_of direction) (Some n)).after.editing
+steady-go_cut direction state n steady some within =
+    let editing = state.editing in
+    let all = group_steps direction editing.edits in
+    let made = moved direction reply.Edited editing all in
+    let judgement = group_refusal editing (groups_to direction editing.edits) all in
+    let few : n < length (judged judgement editing made).made = subst (λ (r : Reaction). n < length r.made) (group_reacts direction state) within in
+    let none = not_refused judgement editing made n few in
+    let inside : n < length all = subst (λ (j : Option Refusal). n < length (judged j editing made).made) none few in
+    subst (λ (r : Reaction). IsSteady r.after.editing) (sym (group_cut direction state n))
+    (steady-moved direction reply.Cut editing n steady none some (omega arith))
 
 steady-still : (state : State) (reaction : Reaction) → IsStill state reaction → IsSteady state.editing → IsSteady reaction.after.editing
 steady-still state reaction still steady = subst (λ (e : Editing). IsSteady e) (sym still.editing) steady
@@ -230,12 +223,8 @@ steady-react state End whole steady =
       turn = steady.turn;
       fit = fit-ended state.editing.edits (text_of state.editing) (open_unless state.editing.edits.depth none) steady.fit;
     })
-steady-react state Undo whole steady =
-    steady-judged (group_refusal state.editing state.editing.edits.undo (undo_steps state.editing)) state.editing
-    (undone reply.Edited state.editing (undo_steps state.editing)) steady (λ none. steady-undo state.editing steady none)
-steady-react state Redo whole steady =
-    steady-judged (group_refusal state.editing state.editing.edits.redo (redo_steps state.editing)) state.editing
-    (redone reply.Edited state.editing (redo_steps state.editing)) steady (λ none. steady-redo state.editing steady none)
+steady-react state Undo whole steady = steady-go Back state steady
+steady-react state Redo whole steady = steady-go Forth state steady
 steady-react state (MakeRange span expand empty) whole steady = steady
 steady-react state (SetRange id span) whole steady = steady-still state (react_command state (SetRange id span)) (still-set state id span (get state.ranges id)) steady
 steady-react state (DropRange id) whole steady = steady-still state (react_command state (DropRange id)) (still-drop state id (get state.ranges id)) steady
@@ -258,18 +247,8 @@ steady-cut state (Edit change) n whole steady some within =
     steady-first reply.Cut state.editing change n steady whole (fits_unless (change_misfit change text) (full state.editing (steps_of change text)) none)
 steady-cut state Begin n whole steady some within = absurd (omega arith)
 steady-cut state End n whole steady some within = absurd (no_end state.editing n within)
-steady-cut state Undo n whole steady some within =
-    let none = not_refused (group_refusal state.editing state.editing.edits.undo (undo_steps state.editing)) state.editing
-    (undone reply.Edited state.editing (undo_steps state.editing)) n within in
-    let inside : n < length (undo_steps state.editing) =
-    subst (λ (j : Option Refusal). n < length (judged j state.editing (undone reply.Edited state.editing (undo_steps state.editing))).made) none within in
-    steady-undone reply.Cut state.editing n steady none some (omega arith)
-steady-cut state Redo n whole steady some within =
-    let none = not_refused (group_refusal state.editing state.editing.edits.redo (redo_steps state.editing)) state.editing
-    (redone reply.Edited state.editing (redo_steps state.editing)) n within in
-    let inside : n < length (redo_steps state.editing) =
-    subst (λ (j : Option Refusal). n < length (judged j state.editing (redone reply.Edited state.editing (redo_steps state.editing))).made) none within in
-    steady-redone reply.Cut state.editing n steady none some (omega arith)
+steady-cut state Undo n whole steady some within = steady-go_cut Back state n steady some within
+steady-cut state Redo n whole steady some within = steady-go_cut Forth state n steady some within
 steady-cut state (MakeRange span expand empty) n whole steady some within = absurd (omega arith)
 steady-cut state (SetRange id span) n whole steady some within =
     absurd (uncut state (react_command state (SetRange id span)) n (still-set state id span (get state.ranges id)).made within)
@@ -355,7 +334,7 @@ parted-replay state (event ∷ events) done whole steady answered is =
     let came = came_of state event in
     let first = option_to_list came.finished in
     let next = steady-by state event.seat event.request (cut_at event.reply) (All-head P event events whole) steady answered.0.cut in
-    let same = (rises state event.seat event.request (cut_at event.reply)).loaded in
+    let same = (event_grows state event).loaded in
     let turn : FitInTurn came.after.editing.trail state.editing.loaded.text =
     subst (λ (l : Loaded). FitInTurn came.after.editing.trail l.text) same next.turn in
     let parts = parts-by state event.seat event.request (cut_at event.reply) steady.fit.shut answered.0.cut turn in
@@ -374,26 +353,29 @@ text_made : (judgement : Option Refusal) (editing : Editing) (ps : List Primitiv
 text_made None editing ps edits steps revision depth is = after_all-append editing.trail ps editing.loaded.text
 text_made (Some cause) editing ps edits steps revision depth is = absurd (cc)
 
+-- .. and so an undo and a redo
+gone_text : (direction : Direction) (state : State) (seat steps revision depth : ℕ)
+    → (react state seat (Cmd (command_of direction))).reply ≡ reply.Edited steps revision depth
+    → text_of (react state seat (Cmd (command_of direction))).after.editing
+    ≡ after_all (group_steps direction state.editing.edits) (text_of state.editing)
+gone_text direction state seat steps revision depth =
+    let editing = state.editing in
+    let ps = group_steps direction editing.edits in
+    let P : Reaction → Type 0 = λ r. r.reply ≡ reply.Edited steps revision depth → text_of r.after.editing ≡ after_all ps (text_of editing) in
+    unless P state (react_command state (command_of direction)) (λ is. absurd (cc))
+    (subst P (sym (group_reacts direction state))
+    (λ is. text_made (group_refusal editing (groups_to direction editing.edits) ps) editing ps (gone direction (length ps) editing.edits) steps revision depth is))
+
 pub undone_text : (state : State) (seat : ℕ) (from : List (List ℕ)) (steps revision depth : ℕ)
     → Leads (last_of state.editing.edits.undo) from (text_of state.editing)
     → (react state seat (Cmd Undo)).reply ≡ reply.Edited steps revision depth
     → text_of (react state seat (Cmd Undo)).after.editing ≡ from
-undone_text state seat from steps revision depth leads =
-    let editing = state.editing in
-    let ps = undo_steps editing in
-    unless (λ (r : Reaction). r.reply ≡ reply.Edited steps revision depth → text_of r.after.editing ≡ from) state (react_command state Undo)
-    (λ is. absurd (cc))
-    (λ is. text_made (group_refusal editing editing.edits.undo ps) editing ps (gone_back (length ps) editing.edits) steps revision depth is
-    ∙ (Leads-back (last_of editing.edits.undo) from (text_of editing) leads).text)
+undone_text state seat from steps revision depth leads is =
+    gone_text Back state seat steps revision depth is ∙ (Leads-back (last_of state.editing.edits.undo) from (text_of state.editing) leads).text
 
 pub redone_text : (state : State) (seat : ℕ) (to : List (List ℕ)) (steps revision depth : ℕ)
     → Leads (last_of state.editing.edits.redo) (text_of state.editing) to
     → (react state seat (Cmd Redo)).reply ≡ reply.Edited steps revision depth
     → text_of (react state seat (Cmd Redo)).after.editing ≡ to
-redone_text state seat to steps revision depth leads =
-    let editing = state.editing in
-    let ps = redo_steps editing in
-    unless (λ (r : Reaction). r.reply ≡ reply.Edited steps revision depth → text_of r.after.editing ≡ to) state (react_command state Redo)
-    (λ is. absurd (cc))
-    (λ is. text_made (group_refusal editing editing.edits.redo ps) editing ps (gone_forth (length ps) editing.edits) steps revision depth is
-    ∙ (Leads-forth (last_of editing.edits.redo) (text_of editing) to leads).text)
+redone_text state seat to steps revision depth leads is =
+    gone_text Forth state seat steps revision depth is ∙ (Leads-forth (last_of state.editing.edits.redo) (text_of state.editing) to leads).text

@@ -1,5 +1,5 @@
 -- Primitives that are made one after another.
-use Rattle.std.proofs.Common.{◌≡◌, ℕ, ◌+◌, false, List, [], ◌∷◌, ◌++◌, take, drop, All, Some, None, refl, ap, sym, subst, ◌∙◌, arith, append-nil, append_assoc, length-append, add-zero}
+use Rattle.std.proofs.Common.{◌≡◌, ℕ, ◌+◌, ◌≤◌, false, List, [], ◌∷◌, ◌++◌, length, take, drop, All, Some, None, refl, ap, sym, subst, ◌∙◌, arith, append-nil, append_assoc, length-append, add-zero}
 use Rattle.std.specs.Prelude.{Result, Ok, Err, is_err, OnOk}
 use Rattle.std.specs.List.{slice_get}
 use Rattle.std.proofs.lemmas.Option.{slice_get_within, get_or_from_slice_get}
@@ -50,7 +50,7 @@ left : (ps : List Primitive) (n : ℕ) (p : Primitive) → slice_get ps n ≡ So
 left ps n p found =
     drop_more ps n p (slice_get_within ps n p found) ∙ ap (λ (q : Primitive). q ∷ drop (n + 1) ps) (get_or_from_slice_get ps n p p found)
 
-pub IsAfter-more : (ps : List Primitive) (n : ℕ) (p : Primitive) (a b c : Document) → slice_get ps n ≡ Some p
+IsAfter-more : (ps : List Primitive) (n : ℕ) (p : Primitive) (a b c : Document) → slice_get ps n ≡ Some p
     → IsAfter (take n ps) a b → IsAfter (p ∷ []) b c → IsAfter (take (n + 1) ps) a c
 IsAfter-more ps n p a b c found first last =
     subst (λ (qs : List Primitive). IsAfter qs a c) (sym (taken ps n p found)) (IsAfter-join (take n ps) (p ∷ []) a b c first last)
@@ -66,6 +66,20 @@ pub fits_next : (ps : List Primitive) (n : ℕ) (p : Primitive) (text : List (Li
 fits_next ps n p text found fit =
     let next = subst (λ (qs : List Primitive). FitInTurn qs text) (left ps n p found) fit in
     record { fits = next.0; some = next.1; rest = next.2 }
+
+-- .. so after it the first primitives are one more, and the others fit
+pub record IsFurther (ps : List Primitive) (n : ℕ) (start now : Document) : Type 0 where
+  pub count : n + 1 ≤ length ps
+  pub after : IsAfter (take (n + 1) ps) start now
+  pub fit : FitInTurn (drop (n + 1) ps) now.text
+
+pub one_further : (ps : List Primitive) (n : ℕ) (p : Primitive) (start was now : Document) → slice_get ps n ≡ Some p
+    → IsAfter (take n ps) start was → FitInTurn (drop n ps) was.text → IsAfter (p ∷ []) was now → IsFurther ps n start now
+one_further ps n p start was now found before fit one = record {
+  count = omega (arith, slice_get_within ps n p found);
+  after = IsAfter-more ps n p start was now found before one;
+  fit = rw one.text (fits_next ps n p was.text found fit).rest;
+}
 
 pub lines_more : (ps : List Primitive) (n : ℕ) (p : Primitive) → slice_get ps n ≡ Some p → All HasLine (take n ps) → HasLine p
     → All HasLine (take (n + 1) ps)

@@ -1,5 +1,5 @@
 -- What an undo and a redo make of the groups.
-use Rattle.std.proofs.Common.{◌≡◌, ℕ, zero, suc, ◌+◌, ◌<◌, ◌≤◌, ◌==◌, false, List, [], length, take, map, Some, refl, ap, sym, subst, ◌∙◌, inl, inr, arith}
+use Rattle.std.proofs.Common.{◌≡◌, ℕ, zero, suc, ◌+◌, ◌<◌, ◌≤◌, ◌==◌, false, List, [], length, take, map, All, Some, refl, ap, sym, subst, ◌∙◌, inl, inr, arith}
 use Rattle.std.specs.Prelude.{◌↔◌, Result, Ok, Err, IsOk, IsOkAnd, nat_le}
 use Rattle.std.specs.declared.alloc.AllocError.{AllocError}
 use Rattle.std.proofs.lemmas.Bool.{cases_Bool, eqb-true, eqb-false}
@@ -7,14 +7,16 @@ use Rattle.std.proofs.lemmas.List.{length-map, length-reverse, length-take-le}
 use Rattle.kte_text.specs.Primitives.{FitInTurn, after_all}
 use Rattle.kte_text.specs.declared.primitive.Primitive.{Primitive}
 use Rattle.kte_doc.specs.Documents.{Document}
-use Rattle.kte_undo.specs.Steps.{undo_of, redo_of, back_of, forth_of}
-use Rattle.kte_undo.specs.Groups.{Edits, last_of, gone_back, gone_forth}
+use Rattle.kte_undo.specs.Steps.{back_of, forth_of}
+use Rattle.kte_undo.specs.Groups.{Edits, last_of}
 use Rattle.kte_undo.specs.declared.step.Step.{Step as UndoStep}
 use Rattle.kte_undo.specs.declared.groups.UndoFault.{UndoFault}
-use Rattle.kte_core.specs.Editing.{group_refusal, undo_steps, redo_steps}
-use Rattle.kte_core.specs.Groups.{GroupsFit}
+use Rattle.kte_core.specs.Editing.{group_refusal}
+use Rattle.kte_core.specs.Groups.{GroupsFit, IsFilled, groups_to, group_steps, gone}
 use Rattle.kte_core.specs.State.{State}
 use Rattle.kte_core.specs.Shown.{IsOf, IsRefused}
+use Rattle.kte_core.specs.declared.edits.Direction.{Direction}
+use Rattle.kte_core.specs.declared.edits.Direction.TheVariants.{Back, Forth}
 use Rattle.kte_core.specs.declared.event.Step.{Step}
 use Rattle.kte_core.specs.declared.reply.Refusal.TheVariants as refusal
 use Rattle.kte_core.proofs.EditLemmas.{may_go, is_ok_from, group_is_full}
@@ -64,100 +66,88 @@ is_replied back given depth groups result is still_open nothing tells_open tells
     }
 
 -- the last group has as many primitives as steps
-pub length-undo_of : (group : List UndoStep) → length (undo_of group) ≡ length group
-length-undo_of group = length-reverse (map back_of group) ∙ length-map group back_of
+length-group_steps : (direction : Direction) (edits : Edits) → length (group_steps direction edits) ≡ length (last_of (groups_to direction edits))
+length-group_steps Back edits = length-reverse (map back_of (last_of edits.undo)) ∙ length-map (last_of edits.undo) back_of
+length-group_steps Forth edits = length-map (last_of edits.redo) forth_of
 
-pub length-redo_of : (group : List UndoStep) → length (redo_of group) ≡ length group
-length-redo_of group = length-map group forth_of
+-- .. and some
+groups_filled : (direction : Direction) (edits : Edits) (text : List (List ℕ)) → GroupsFit edits text → All IsFilled (groups_to direction edits)
+groups_filled Back edits text fit = fit.undo_filled
+groups_filled Forth edits text fit = fit.redo_filled
+
+-- .. which fit the text
+steps_fit : (direction : Direction) (edits : Edits) (text : List (List ℕ)) → edits.depth ≡ 0 → 0 < length (groups_to direction edits)
+    → GroupsFit edits text → FitInTurn (group_steps direction edits) text
+steps_fit Back edits text shut some fit =
+    let last = (last_undo edits text shut some fit).parts in
+    (Leads-back (last_of edits.undo) last.mid text last.last).fit
+steps_fit Forth edits text shut some fit =
+    let last = (last_redo edits text shut some fit).parts in
+    (Leads-forth (last_of edits.redo) text last.mid last.first).fit
+
+fit-gone : (direction : Direction) (edits : Edits) (text : List (List ℕ)) (n : ℕ) → edits.depth ≡ 0 → 0 < length (groups_to direction edits)
+    → 0 < n → n ≤ length (last_of (groups_to direction edits)) → GroupsFit edits text
+    → GroupsFit (gone direction n edits) (after_all (take n (group_steps direction edits)) text)
+fit-gone Back edits text n shut some one within fit = fit-gone_back edits text n shut some one within fit
+fit-gone Forth edits text n shut some one within fit = fit-gone_forth edits text n shut some one within fit
 
 -- where not none of them was made, some was
 some_done : (n all : ℕ) → 0 < all → (n < all → 0 < n) → 0 < n
 some_done zero all some h = h some
 some_done (suc n) all some h = omega arith
 
--- An undo of so many primitives of the last group
-pub record Undoing (edits : Edits) (text : List (List ℕ)) (made : List Primitive) : Type 0 where
+-- An undo or a redo of so many primitives of the last group
+pub record Going (direction : Direction) (edits : Edits) (text : List (List ℕ)) (made : List Primitive) : Type 0 where
   pub fit : GroupsFit edits text
   pub shut : edits.depth ≡ 0
-  pub some : 0 < length edits.undo
-  pub all : made ≡ undo_of (last_of edits.undo)
+  pub some : 0 < length (groups_to direction edits)
+  pub all : made ≡ group_steps direction edits
 
-pub undo_fits : (edits : Edits) (text : List (List ℕ)) (made : List Primitive) → Undoing edits text made → FitInTurn made text
-undo_fits edits text made undoing =
-    let last = (last_undo edits text undoing.shut undoing.some undoing.fit).parts in
-    subst (λ (ps : List Primitive). FitInTurn ps text) (sym undoing.all) (Leads-back (last_of edits.undo) last.mid text last.last).fit
+pub group_fits_text : (direction : Direction) (edits : Edits) (text : List (List ℕ)) (made : List Primitive) → Going direction edits text made
+    → FitInTurn made text
+group_fits_text direction edits text made going =
+    subst (λ (ps : List Primitive). FitInTurn ps text) (sym going.all) (steps_fit direction edits text going.shut going.some going.fit)
 
-pub undo_is_full : (state : State) (document : Document) (edits : Edits) (text : List (List ℕ)) (made : List Primitive)
-    → Undoing edits text made → IsOf state document → edits ≡ state.editing.edits
+-- it has as many primitives as its group has steps, and some
+pub record HasSteps (direction : Direction) (edits : Edits) (made : List Primitive) : Type 0 where
+  pub long : length made ≡ length (last_of (groups_to direction edits))
+  pub some : 0 < length made
+
+pub has_steps : (direction : Direction) (edits : Edits) (text : List (List ℕ)) (made : List Primitive) → Going direction edits text made
+    → HasSteps direction edits made
+has_steps direction edits text made going =
+    let filled = last_filled (groups_to direction edits) going.some (groups_filled direction edits text going.fit) in
+    let long : length made ≡ length (last_of (groups_to direction edits)) = ap length going.all ∙ length-group_steps direction edits in
+    record { long = long; some = omega arith }
+
+pub going_is_full : (direction : Direction) (state : State) (document : Document) (edits : Edits) (text : List (List ℕ)) (made : List Primitive)
+    → Going direction edits text made → IsOf state document → edits ≡ state.editing.edits
     → nat_le (document.revision + length made) document.limit ≡ false
-    → group_refusal state.editing state.editing.edits.undo (undo_steps state.editing) ≡ Some (refusal.RevisionsFull document.revision)
-undo_is_full state document edits text made undoing is_of same less =
-    ap (λ (e : Edits). group_refusal state.editing e.undo (undo_of (last_of e.undo))) (sym same)
-    ∙ ap (λ (ps : List Primitive). group_refusal state.editing edits.undo ps) (sym undoing.all)
-    ∙ group_is_full state document edits edits.undo made is_of same undoing.shut undoing.some less
+    → group_refusal state.editing (groups_to direction state.editing.edits) (group_steps direction state.editing.edits)
+    ≡ Some (refusal.RevisionsFull document.revision)
+going_is_full direction state document edits text made going is_of same less =
+    ap (λ (e : Edits). group_refusal state.editing (groups_to direction e) (group_steps direction e)) (sym same)
+    ∙ ap (λ (ps : List Primitive). group_refusal state.editing (groups_to direction edits) ps) (sym going.all)
+    ∙ group_is_full state document edits (groups_to direction edits) made is_of same going.shut going.some less
 
-pub undone_some : (edits : Edits) (text : List (List ℕ)) (made : List Primitive) (n : ℕ) → Undoing edits text made
+pub gone_some : (direction : Direction) (edits : Edits) (text : List (List ℕ)) (made : List Primitive) (n : ℕ) → Going direction edits text made
     → (n < length made → 0 < n) → 0 < n
-undone_some edits text made n undoing h =
-    let filled = last_filled edits.undo undoing.some undoing.fit.undo_filled in
-    let long : length made ≡ length (last_of edits.undo) = ap length undoing.all ∙ length-undo_of (last_of edits.undo) in
-    some_done n (length made) (omega arith) h
+gone_some direction edits text made n going h = some_done n (length made) (has_steps direction edits text made going).some h
 
-pub undone_edits : (edits later : Edits) (made : List Primitive) (n : ℕ) → n ≤ length made → later ≡ gone_back n edits
-    → later ≡ gone_back (length (take n made)) edits
-undone_edits edits later made n within is = is ∙ ap (λ (k : ℕ). gone_back k edits) (sym (length-take-le n made within))
+pub gone_edits : (direction : Direction) (edits later : Edits) (made : List Primitive) (n : ℕ) → n ≤ length made → later ≡ gone direction n edits
+    → later ≡ gone direction (length (take n made)) edits
+gone_edits direction edits later made n within is = is ∙ ap (λ (k : ℕ). gone direction k edits) (sym (length-take-le n made within))
 
-pub fits_undone : (edits later : Edits) (text now : List (List ℕ)) (made : List Primitive) (n : ℕ) → Undoing edits text made
-    → 0 < n → n ≤ length made → later ≡ gone_back n edits → now ≡ after_all (take n made) text → GroupsFit later now
-fits_undone edits later text now made n undoing one within is reached =
-    let long : length made ≡ length (last_of edits.undo) = ap length undoing.all ∙ length-undo_of (last_of edits.undo) in
-    let reached_all : now ≡ after_all (take n (undo_of (last_of edits.undo))) text =
-    reached ∙ ap (λ (ps : List Primitive). after_all (take n ps) text) undoing.all in
+pub fits_gone : (direction : Direction) (edits later : Edits) (text now : List (List ℕ)) (made : List Primitive) (n : ℕ)
+    → Going direction edits text made → 0 < n → n ≤ length made → later ≡ gone direction n edits → now ≡ after_all (take n made) text
+    → GroupsFit later now
+fits_gone direction edits later text now made n going one within is reached =
+    let long = (has_steps direction edits text made going).long in
+    let reached_all : now ≡ after_all (take n (group_steps direction edits)) text =
+    reached ∙ ap (λ (ps : List Primitive). after_all (take n ps) text) going.all in
     subst (λ (e : Edits). GroupsFit e now) (sym is)
-    (subst (λ (t : List (List ℕ)). GroupsFit (gone_back n edits) t) (sym reached_all)
-    (fit-gone_back edits text n undoing.shut undoing.some one (omega arith) undoing.fit))
-
--- A redo of so many primitives of the last group
-pub record Redoing (edits : Edits) (text : List (List ℕ)) (made : List Primitive) : Type 0 where
-  pub fit : GroupsFit edits text
-  pub shut : edits.depth ≡ 0
-  pub some : 0 < length edits.redo
-  pub all : made ≡ redo_of (last_of edits.redo)
-
-pub redo_fits : (edits : Edits) (text : List (List ℕ)) (made : List Primitive) → Redoing edits text made → FitInTurn made text
-redo_fits edits text made redoing =
-    let last = (last_redo edits text redoing.shut redoing.some redoing.fit).parts in
-    subst (λ (ps : List Primitive). FitInTurn ps text) (sym redoing.all) (Leads-forth (last_of edits.redo) text last.mid last.first).fit
-
-pub redo_is_full : (state : State) (document : Document) (edits : Edits) (text : List (List ℕ)) (made : List Primitive)
-    → Redoing edits text made → IsOf state document → edits ≡ state.editing.edits
-    → nat_le (document.revision + length made) document.limit ≡ false
-    → group_refusal state.editing state.editing.edits.redo (redo_steps state.editing) ≡ Some (refusal.RevisionsFull document.revision)
-redo_is_full state document edits text made redoing is_of same less =
-    ap (λ (e : Edits). group_refusal state.editing e.redo (redo_of (last_of e.redo))) (sym same)
-    ∙ ap (λ (ps : List Primitive). group_refusal state.editing edits.redo ps) (sym redoing.all)
-    ∙ group_is_full state document edits edits.redo made is_of same redoing.shut redoing.some less
-
-pub redone_some : (edits : Edits) (text : List (List ℕ)) (made : List Primitive) (n : ℕ) → Redoing edits text made
-    → (n < length made → 0 < n) → 0 < n
-redone_some edits text made n redoing h =
-    let filled = last_filled edits.redo redoing.some redoing.fit.redo_filled in
-    let long : length made ≡ length (last_of edits.redo) = ap length redoing.all ∙ length-redo_of (last_of edits.redo) in
-    some_done n (length made) (omega arith) h
-
-pub redone_edits : (edits later : Edits) (made : List Primitive) (n : ℕ) → n ≤ length made → later ≡ gone_forth n edits
-    → later ≡ gone_forth (length (take n made)) edits
-redone_edits edits later made n within is = is ∙ ap (λ (k : ℕ). gone_forth k edits) (sym (length-take-le n made within))
-
-pub fits_redone : (edits later : Edits) (text now : List (List ℕ)) (made : List Primitive) (n : ℕ) → Redoing edits text made
-    → 0 < n → n ≤ length made → later ≡ gone_forth n edits → now ≡ after_all (take n made) text → GroupsFit later now
-fits_redone edits later text now made n redoing one within is reached =
-    let long : length made ≡ length (last_of edits.redo) = ap length redoing.all ∙ length-redo_of (last_of edits.redo) in
-    let reached_all : now ≡ after_all (take n (redo_of (last_of edits.redo))) text =
-    reached ∙ ap (λ (ps : List Primitive). after_all (take n ps) text) redoing.all in
-    subst (λ (e : Edits). GroupsFit e now) (sym is)
-    (subst (λ (t : List (List ℕ)). GroupsFit (gone_forth n edits) t) (sym reached_all)
-    (fit-gone_forth edits text n redoing.shut redoing.some one (omega arith) redoing.fit))
+    (subst (λ (t : List (List ℕ)). GroupsFit (gone direction n edits) t) (sym reached_all)
+    (fit-gone direction edits text n going.shut going.some one (omega arith) going.fit))
 
 -- nothing was made
 pub fits_same : (edits later : Edits) (document now : Document) → GroupsFit edits document.text → later ≡ edits → now ≡ document → GroupsFit later now.text

@@ -6,6 +6,7 @@ ghost use Rattle.kte_core.specs.Shown.{IsOf, Meets};
 ghost use Rattle.kte_core.specs.declared.reply.Refusal.TheVariants.{RevisionsFull, StillOpen};
 ghost use Rattle.kte_core.specs.declared.reply.Reply.TheVariants.{Asked, Refused};
 
+use crate::edits::Direction;
 use crate::event::Step;
 use crate::reply::{Refusal, Reply};
 use crate::{edits, jobs, ranges, revisions};
@@ -44,8 +45,8 @@ pub(crate) fn carry_out(
 {
     let reply = match command {
         Command::Edit { change } => return edits::change(alloc, doc, undo, change),
-        Command::Undo => return edits::undo(alloc, doc, undo),
-        Command::Redo => return edits::redo(alloc, doc, undo),
+        Command::Undo => return edits::go(alloc, doc, undo, Direction::Back),
+        Command::Redo => return edits::go(alloc, doc, undo, Direction::Forth),
         Command::Begin => edits::begin(undo),
         Command::End => edits::end(undo),
         Command::MakeRange {

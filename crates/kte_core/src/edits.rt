@@ -1,13 +1,13 @@
-ghost use Rattle.std.specs.Prelude.{◌≡◌, ℕ, ◌+◌, ◌^◌, ◌<◌, ◌≤◌, ◌↔◌, None, Some, [], ◌∷◌, false, length, take, IfOk, IsOk, IsErr, IsOkAnd, OnOk, OnErr, All};
+ghost use Rattle.std.specs.Prelude.{◌≡◌, ℕ, ◌+◌, ◌^◌, ◌<◌, ◌≤◌, ◌↔◌, None, Some, Err, [], ◌∷◌, false, length, take, IfOk, IsOk, IsErr, IsOkAnd, OnOk, OnErr, All};
 ghost use Rattle.kte_text.specs.Texts.{IsText};
 ghost use Rattle.kte_text.specs.Primitives.{FitInTurn, HasLine, is_empty, misfit};
 ghost use Rattle.kte_edit.specs.Steps.{change_misfit};
 ghost use Rattle.kte_undo.specs.Steps.{cut_by, old_of, step, steps_along};
-ghost use Rattle.kte_undo.specs.Groups.{begun, ended, noted};
+ghost use Rattle.kte_undo.specs.Groups.{begun, ended, last_of, noted};
 ghost use Rattle.kte_undo.specs.declared.groups.UndoFault.TheVariants as UndoFault;
 ghost use Rattle.kte_command.specs.declared.command.Command.TheVariants as command;
 ghost use Rattle.kte_core.specs.Editing.{noted_all, noted_change};
-ghost use Rattle.kte_core.specs.Groups.{GroupsFit};
+ghost use Rattle.kte_core.specs.Groups.{GroupsFit, HasRoom, command_of, gone, group_steps, groups_to};
 ghost use Rattle.kte_core.specs.Shown.{IsAfter, IsOf, IsRefused, Meets};
 ghost use Rattle.kte_core.specs.declared.reply.Reply.TheVariants as reply;
 ghost use Rattle.kte_core.specs.declared.reply.Refusal.TheVariants as Refusal;
@@ -52,19 +52,33 @@ pub(crate) fn change(
     told(doc, undo, made, done)
 }
 
-/// Undoes the last group that may be undone.
-pub(crate) fn undo(alloc: Global, doc: &mut Doc, undo: &mut Undo) -> Result<Step, AllocError>
+/// Where the last group goes: back, as it is undone, or forth, as it is redone.
+#[derive(Clone, Copy)]
+pub(crate) enum Direction {
+    /// The last group that may be undone is undone.
+    Back,
+    /// The last group that may be redone is redone.
+    Forth,
+}
+
+/// Undoes the last group that may be undone, or redoes the last one that may be redone.
+pub(crate) fn go(
+    alloc: Global,
+    doc: &mut Doc,
+    undo: &mut Undo,
+    direction: Direction,
+) -> Result<Step, AllocError>
     requires { GroupsFit undo.old.edits doc.old.text }
     ensures meets { IfOk result (λ step. (state : _) → IsOf state doc.old
         → undo.old.edits ≡ state.editing.edits
-        → Meets state command.Undo step doc.new undo.new.edits state.jobs) }
+        → Meets state (command_of direction) step doc.new undo.new.edits state.jobs) }
     ensures still_open { 0 < undo.old.edits.depth → IsOk result }
-    ensures nothing { undo.old.edits.undo ≡ [] → IsOk result }
+    ensures nothing { groups_to direction undo.old.edits ≡ [] → IsOk result }
     ensures fit { GroupsFit undo.new.edits doc.new.text }
     ensures err { OnErr result (doc.new ≡ doc.old) }
     ensures err_edits { OnErr result (undo.new.edits ≡ undo.old.edits) }
 {
-    let made = match undo.back() {
+    let made = match last_group(undo, direction) {
         Ok(made) => made,
         Err(fault) => return no_group(alloc, fault),
     };
@@ -73,35 +87,42 @@ pub(crate) fn undo(alloc: Global, doc: &mut Doc, undo: &mut Undo) -> Result<Step
     }
     let done = apply_all(doc, &made);
     if done > 0 {
-        undo.went_back(done);
+        went(undo, direction, done);
     }
     told(doc, undo, made, done)
 }
 
-/// Redoes the last group that was undone.
-pub(crate) fn redo(alloc: Global, doc: &mut Doc, undo: &mut Undo) -> Result<Step, AllocError>
-    requires { GroupsFit undo.old.edits doc.old.text }
-    ensures meets { IfOk result (λ step. (state : _) → IsOf state doc.old
-        → undo.old.edits ≡ state.editing.edits
-        → Meets state command.Redo step doc.new undo.new.edits state.jobs) }
-    ensures still_open { 0 < undo.old.edits.depth → IsOk result }
-    ensures nothing { undo.old.edits.redo ≡ [] → IsOk result }
-    ensures fit { GroupsFit undo.new.edits doc.new.text }
-    ensures err { OnErr result (doc.new ≡ doc.old) }
-    ensures err_edits { OnErr result (undo.new.edits ≡ undo.old.edits) }
+/// Returns the primitives that undo or redo the last group, and makes room for one `went`. Fails if
+/// a transaction is open, and then if there is no such group. The groups are unchanged.
+fn last_group(undo: &mut Undo, direction: Direction) -> Result<Batch, UndoFault>
+    ensures still_open { (depth : _) → (result ≡ Err (UndoFault.StillOpen depth))
+        ↔ ((depth ≡ undo.old.edits.depth) × (0 < depth)) }
+    ensures nothing { (result ≡ Err UndoFault.Nothing)
+        ↔ ((undo.old.edits.depth ≡ 0) × (groups_to direction undo.old.edits ≡ [])) }
+    ensures steps { IfOk result (λ batch. batch ≡ group_steps direction undo.old.edits) }
+    ensures room { OnOk result (HasRoom direction undo.new) }
+    ensures edits { undo.new.edits ≡ undo.old.edits }
 {
-    let made = match undo.forth() {
-        Ok(made) => made,
-        Err(fault) => return no_group(alloc, fault),
-    };
-    if let Err(RevisionsFull { revision }) = doc.room(made.len()) {
-        return Ok(refused(alloc, Refusal::RevisionsFull { revision }));
+    match direction {
+        Direction::Back => undo.back(),
+        Direction::Forth => undo.forth(),
     }
-    let done = apply_all(doc, &made);
-    if done > 0 {
-        undo.went_forth(done);
+}
+
+/// Moves `done` steps of the last group, those that were undone or redone, to the groups of the other
+/// direction. Takes no memory.
+fn went(undo: &mut Undo, direction: Direction, done: u64)
+    requires shut { undo.old.edits.depth ≡ 0 }
+    requires some { 0 < length (groups_to direction undo.old.edits) }
+    requires one { 0 < done }
+    requires done { done ≤ length (last_of (groups_to direction undo.old.edits)) }
+    requires room { HasRoom direction undo.old }
+    ensures { undo.new.edits ≡ gone direction done undo.old.edits }
+{
+    match direction {
+        Direction::Back => undo.went_back(done),
+        Direction::Forth => undo.went_forth(done),
     }
-    told(doc, undo, made, done)
 }
 
 /// Opens a transaction, in the one that is open, if any.

@@ -18,4 +18,4 @@ mod replay;
 mod tests;
 
 pub use answer::{Damage, RecoverFault, Recovered, Tail};
-pub use recovery::recover;
+pub use recovery::{recover, recover_loaded};

@@ -37,7 +37,52 @@ pub fn recover(alloc: Global, saved: &[u8], swap: &[u8]) -> Result<Recovered, Re
     recover_some(alloc, saved, swap)
 }
 
-// The same for a swap file that is not empty.
+/// The same for a saved file that is loaded already, and a swap file that is not empty.
+pub fn recover_loaded(
+    alloc: Global,
+    saved: &[u8],
+    loaded: Loaded,
+    swap: &[u8],
+) -> Result<Recovered, RecoverFault>
+    requires loads { Loads saved.now loaded }
+    requires allowed { IsAllowed saved.now }
+    requires some { swap.now ≢ [] }
+    ensures answer { IfSome (answer_of result) (Answers saved.now swap.now) }
+    ensures file { KeepsFile saved.now result }
+
+    // Unless memory runs out, the answer is the one that there is. No refusal depends on memory.
+    ensures only { (answer : Answer) → Answers saved.now swap.now answer
+        → (result ≡ Err RecoverFault.NoMemory) ⊎ (answer_of result ≡ Some answer) }
+    ensures refusal { (answer : Answer) → IsRefusal answer → Answers saved.now swap.now answer
+        → answer_of result ≡ Some answer }
+{
+    recover_beside(alloc, saved, loaded, swap)
+}
+
+// The same, with the clauses that the steps need.
+fn recover_beside(
+    alloc: Global,
+    saved: &[u8],
+    loaded: Loaded,
+    swap: &[u8],
+) -> Result<Recovered, RecoverFault>
+    requires loads { Loads saved.now loaded }
+    requires allowed { IsAllowed saved.now }
+    requires some { swap.now ≢ [] }
+    ensures answer { IfSome (answer_of result) (Answers saved.now swap.now) }
+    ensures file { KeepsFile saved.now result }
+    ensures memory { (answer : Answer) → IsRefusal answer → Answers saved.now swap.now answer
+        → result ≢ Err RecoverFault.NoMemory }
+{
+    let is_whole = check_header(saved, swap)?;
+    if is_whole {
+        replay(alloc, loaded, swap)
+    } else {
+        Ok(nothing_done(loaded))
+    }
+}
+
+// The same for a saved file that is to be loaded.
 fn recover_some(alloc: Global, saved: &[u8], swap: &[u8]) -> Result<Recovered, RecoverFault>
     requires { swap.now ≢ [] }
     ensures answer { IfSome (answer_of result) (Answers saved.now swap.now) }
@@ -45,18 +90,14 @@ fn recover_some(alloc: Global, saved: &[u8], swap: &[u8]) -> Result<Recovered, R
     ensures memory { (answer : Answer) → IsRefusal answer → Answers saved.now swap.now answer
         → result ≢ Err RecoverFault.NoMemory }
 {
-    let loaded = match load_saved(alloc, saved) {
-        Ok(loaded) => loaded,
-        Err(fault) => return Err(RecoverFault::Load(fault)),
-    };
-    let is_whole = check_header(saved, swap)?;
-    let Some(loaded) = loaded else {
-        return Err(RecoverFault::NoMemory);
-    };
-    if is_whole {
-        replay(alloc, loaded, swap)
-    } else {
-        Ok(nothing_done(loaded))
+    match load_saved(alloc, saved) {
+        Ok(Some(loaded)) => recover_beside(alloc, saved, loaded, swap),
+        Ok(None) => {
+            // The header is judged whether there is memory for the text or not.
+            check_header(saved, swap)?;
+            Err(RecoverFault::NoMemory)
+        }
+        Err(fault) => Err(RecoverFault::Load(fault)),
     }
 }
 

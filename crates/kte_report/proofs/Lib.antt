@@ -13,5 +13,6 @@ pub mod ReadingLemmas
 mod JournalExamples
 mod Ascii
 mod ReportExamples
+mod RecoveryExamples
 pub mod RangeLemmas
 pub mod ReportLemmas

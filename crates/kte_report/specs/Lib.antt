@@ -6,3 +6,4 @@ pub mod Journal
 pub mod EventReading
 pub mod Report
 pub mod Shown
+pub mod Recovery

@@ -7,7 +7,8 @@
 //! in the tables of `specs/EventTable.antt`, which spelling and reading both follow: a new reply is
 //! a row there. `laws` proves that two journals never have the same text. [`push_report`] and
 //! [`write_report`] write the report of a core: its counts, where its ranges are, the digest of the
-//! file that saving writes, and the text (`specs/Report.antt`).
+//! file that saving writes, and the text (`specs/Report.antt`). [`push_recovered`] and
+//! [`push_damaged`] write what a swap file recovers to (`specs/Recovery.antt`).
 //!
 //! - `journal`: the text of a journal
 //! - `spelling`: its lines
@@ -15,6 +16,7 @@
 //! - `words`: what the words of a line make
 //! - `fault`: why a journal is refused
 //! - `report`: the report of a core
+//! - `recovery`: what a saved file and its swap file recover to
 //! - `laws`: what follows from the definitions alone
 #![tactic(auto)]
 
@@ -22,6 +24,9 @@ mod fault;
 mod journal;
 pub mod laws;
 mod reading;
+mod recovery;
+#[cfg(test)]
+mod recovery_tests;
 mod report;
 #[cfg(test)]
 mod report_tests;
@@ -33,4 +38,5 @@ mod words;
 pub use fault::JournalFault;
 pub use journal::{push_journal, write_journal};
 pub use reading::read_journal;
+pub use recovery::{push_damaged, push_recovered, push_tail};
 pub use report::{push_report, write_report};

@@ -72,7 +72,11 @@ fn push_counts(core: &Core, out: &mut Vec<u8>) -> Result<(), AllocError>
 
 /// Appends a line of a word and a number.
 #[tactic(auto, using(crate::proofs::ReportLemmas::keeps))]
-fn push_number_line(out: &mut Vec<u8>, word: &[u8], number: u64) -> Result<(), AllocError>
+pub(crate) fn push_number_line(
+    out: &mut Vec<u8>,
+    word: &[u8],
+    number: u64,
+) -> Result<(), AllocError>
     ensures ok { OnOk result (out.new.items ≡ out.old.items ++ number_line word.now number) }
     ensures err { OnErr result (Keeps out.old.items out.new.items) }
 {
@@ -163,7 +167,7 @@ fn push_kind(out: &mut Vec<u8>, kind: RangeKind) -> Result<(), AllocError>
 
 /// Appends the line of a digest.
 #[tactic(auto, using(crate::proofs::ReportLemmas::keeps))]
-fn push_digest(out: &mut Vec<u8>, digest: Digest) -> Result<(), AllocError>
+pub(crate) fn push_digest(out: &mut Vec<u8>, digest: Digest) -> Result<(), AllocError>
     ensures ok { OnOk result (out.new.items ≡ out.old.items ++ digits_line digest.0) }
     ensures err { OnErr result (Keeps out.old.items out.new.items) }
 {
@@ -176,7 +180,7 @@ fn push_digest(out: &mut Vec<u8>, digest: Digest) -> Result<(), AllocError>
 
 /// Appends the line `text`, and then each line of the text.
 #[tactic(auto, using(crate::proofs::ReportLemmas::keeps))]
-fn push_text<L: Lines>(lines: &L, out: &mut Vec<u8>) -> Result<(), AllocError>
+pub(crate) fn push_text<L: Lines>(lines: &L, out: &mut Vec<u8>) -> Result<(), AllocError>
     ensures ok { OnOk result (out.new.items ≡ out.old.items ++ text_lines (L.text lines.now)) }
     ensures err { OnErr result (Keeps out.old.items out.new.items) }
 {

@@ -6,9 +6,10 @@ use kte_find::Rule;
 use kte_place::{Empty, Expand, Place, Span, Spans};
 use kte_text::{Misfit, load};
 use std::alloc::Global;
+use std::process::Abort;
 use std::test::Fail;
 
-/// Every kind of request, by hand.
+/// Requests of each kind with the replies that they may have, by hand.
 const TEXT: &[u8] = b"journal 14\n\
 0 insert 0 5 \"a\\\"\\\\\\n\xC3\xA9\" = edited 1 1 0\n\
 0 range 1 3 2 0 left void = range 1 1 3 2 0\n\
@@ -23,6 +24,46 @@ const TEXT: &[u8] = b"journal 14\n\
 0 outcome append ok = noted\n\
 0 outcome sync failed = noted\n\
 0 outcome save ok = noted\n\
+0 close = closed\n";
+
+/// Every command, every other request, every reply and every refusal, by hand. The replies are not
+/// those that the requests have: a journal's text may hold any.
+const EVERY: &[u8] = b"journal 36\n\
+0 insert 0 5 \"a\\\"\\\\\\n\\t\\x01\xC3\xA9\" = edited 1 1 0\n\
+0 wrap 0 3 = cut 10 20 0\n\
+0 unwrap 1 = depth 4294967295\n\
+0 remove 0 1 2 3 = range 5 0 1 2 3\n\
+0 replace 0 1 0 1 \"\" = range 6 invalid\n\
+0 begin = dropped 7\n\
+0 end = locked 8\n\
+0 undo = unlocked 9\n\
+0 redo = landed 0 1 2 3\n\
+0 range 1 3 2 0 none allow = landed invalid\n\
+0 range 1 3 2 0 left void = posted 1\n\
+0 setrange 1 0 0 0 2 = asked\n\
+0 droprange 18446744073709551615 = took 2 3\n\
+0 where 3 = delivered 4 5 6\n\
+0 lock = returned 7\n\
+0 unlock 4 = noted\n\
+0 land 4 0 0 1 0 right allow = closed\n\
+0 land 4 0 0 1 0 both void = refused noline 1\n\
+0 check word \"ab\" = refused nocolumn 1 18446744073709551615\n\
+0 check blanks = refused splitspair 4 5\n\
+0 check long 80 = refused firstline\n\
+0 check pairs = refused toolarge 67108865\n\
+0 check repeat = refused notopen\n\
+0 sync = refused stillopen 2\n\
+0 save = refused nothing\n\
+3 take = refused notlocked 3 4\n\
+3 deliver 1 0 1 0 3 2 0 10 4 = refused notlocked 5 none\n\
+3 deliver 2 = refused notowned 6\n\
+4294967295 giveback 1 = refused norange 7\n\
+0 outcome append ok = refused revisionsfull 8\n\
+0 outcome append failed = refused nojob open\n\
+0 outcome sync ok = refused nojob closed\n\
+0 outcome sync failed = refused nottaken 9\n\
+0 outcome save ok = refused closed\n\
+0 outcome save failed = noted\n\
 0 close = closed\n";
 
 fn add(journal: &mut Journal, seat: u32, request: Request, reply: Reply) -> Result<(), Fail> {
@@ -285,29 +326,60 @@ fn is_written(alloc: Global, reply: Reply, want: &str) -> Result<bool, Fail> {
 #[test]
 fn a_journal_that_is_cut_is_bad_where_it_ends(rt: HostRuntime) -> Result<(), Fail> {
     let alloc = rt.alloc();
-    for n in 0..TEXT.len() {
-        let piece = &TEXT[..n];
-        let line = piece.split(|byte| *byte == b'\n').count() as u64;
-        assert_eq!(rt; bad_line(alloc, piece)?, line, "{n}");
+    assert!(rt; is_read(alloc, EVERY)?);
+    for n in 0..EVERY.len() {
+        let piece = &EVERY[..n];
+        assert_eq!(rt; bad_line(alloc, piece)?, line_after(piece), "{n}");
     }
     Ok(())
+}
+
+/// Returns the number, from 1, of the line of the place after the last byte.
+fn line_after(bytes: &[u8]) -> u64 {
+    bytes.split(|byte| *byte == b'\n').count() as u64
 }
 
 #[test]
 fn a_changed_byte_is_bad_or_makes_another_journal(rt: HostRuntime) -> Result<(), Fail> {
     let alloc = rt.alloc();
+    for line in EVERY.split(|byte| *byte == b'\n') {
+        if line.is_empty() || line.starts_with(b"journal") {
+            continue;
+        }
+        let mut text = b"journal 2\n".to_vec(alloc)?;
+        text.extend_from_slice(line)?;
+        text.extend_from_slice(b"\n0 close = closed\n")?;
+        assert!(rt; is_read(alloc, &text)?);
+        // The seat is a number, so some change makes another journal.
+        assert!(rt; is_read_changed(&rt, alloc, &text)?);
+    }
+    Ok(())
+}
+
+/// Whether some change of one byte makes another journal. All other changes are bad.
+fn is_read_changed(rt: &impl Abort, alloc: Global, text: &[u8]) -> Result<bool, Fail> {
     let mut is_any_read = false;
-    for n in 0..TEXT.len() {
+    for n in 0..text.len() {
         for byte in *b"\n \"02x\xFF" {
-            let mut text = TEXT.to_vec(alloc)?;
-            text[n] = byte;
-            let line = bad_line(alloc, &text)?;
-            assert!(rt; line > 0 || is_read(alloc, &text)?, "{n} {byte}");
-            is_any_read |= line == 0;
+            let mut changed = text.to_vec(alloc)?;
+            changed[n] = byte;
+            let line = bad_line(alloc, &changed)?;
+            if line == 0 {
+                is_any_read |= byte != text[n];
+                assert!(rt; is_read(alloc, &changed)?, "{n} {byte}");
+            } else {
+                assert!(rt; is_near(line, line_after(&text[..n])), "{n} {byte}");
+            }
         }
     }
-    assert!(rt; is_any_read);
-    Ok(())
+    Ok(is_any_read)
+}
+
+/// Whether this may be the first line at fault after a change of one byte in the line `changed`. The
+/// bytes before the change are a journal's. The line that is changed has no event, or has one that
+/// ends at a new line end and the rest has none; or the first line has another count.
+fn is_near(line: u64, changed: u64) -> bool {
+    line >= changed && (line - changed <= 1 || changed == 1)
 }
 
 #[test]

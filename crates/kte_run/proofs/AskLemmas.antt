@@ -1,45 +1,44 @@
 -- The requests of the editor, one after another.
-use Rattle.std.proofs.Common.{◌≡◌, ◌≢◌, ◌∙◌, ℕ, zero, suc, ◌+◌, ◌*◌, ◌<◌, ◌≤◌, ◌^◌, Bool, true, false, List, [], ◌∷◌, ◌++◌, All, length, map, replicate, Option, Some, None, refl, ap, sym, subst, append_assoc, append-nil, arith, length-append}
+use Rattle.std.proofs.Common.{◌≡◌, ◌≢◌, ◌∙◌, ℕ, zero, suc, ◌+◌, ◌*◌, ◌≤◌, Bool, true, false, List, [], ◌∷◌, ◌++◌, length, map, replicate, Option, Some, None, if◌then◌else◌, refl, ap, sym, subst, append_assoc, append-nil, arith, length-append}
 use Rattle.std.specs.List.{cons_option}
 use Rattle.std.specs.Option.{option_map}
 use Rattle.std.proofs.lemmas.List.{length-replicate, length-map}
-use Rattle.std.proofs.lemmas.List.Elements.{All-nil, All-append, All-cons}
 use Rattle.std.proofs.lemmas.List.Sums.{count_by-le-length}
+use Rattle.kte_text.specs.Primitives.{FitInTurn}
 use Rattle.kte_text.specs.declared.primitive.Primitive.{Primitive}
 use Rattle.kte_text.specs.declared.loading.Loaded.{Loaded}
-use Rattle.kte_jobs.specs.declared.job.JobState.TheVariants.{Done}
 use Rattle.kte_jobs.specs.Job.{Job, is_waiting}
-use Rattle.kte_command.specs.declared.command.Command.{Command}
-use Rattle.kte_command.specs.declared.command.Command.TheVariants.{Begin, End, Sync, Save}
 use Rattle.kte_jobs.proofs.JobLemmas.{job_at_number}
+use Rattle.kte_command.specs.declared.command.Command.{Command}
+use Rattle.kte_command.specs.declared.command.Command.TheVariants.{Begin, End}
+use Rattle.kte_script.specs.declared.TheConstants.{MAX_COMMANDS}
+use Rattle.kte_swap.specs.Swap.{SwapView}
+use Rattle.kte_swap.specs.declared.causes.SwapState.TheVariants.{Guarded}
 use Rattle.kte_core.specs.Jobs.{taken_in}
-use Rattle.kte_core.specs.State.{State, Reaction}
-use Rattle.kte_core.specs.React.{cut_at}
-use Rattle.kte_core.specs.Requests.{IsAllowed, HasNumbers, ranges_of}
-use Rattle.kte_core.specs.Replay.{Session, beginning, present, replay, IsAnswered, after_event, came_of}
+use Rattle.kte_core.specs.State.{State, Reaction, replied}
+use Rattle.kte_core.specs.React.{cut_at, react_by}
+use Rattle.kte_core.specs.Requests.{HasNumbers, ranges_of}
+use Rattle.kte_core.specs.Replay.{Session, Legal, IsAnswered, IsLegal, Finds, after_event, beginning, came_of, present, replay}
 use Rattle.kte_core.specs.declared.event.Event.{Event}
 use Rattle.kte_core.specs.declared.reply.Reply.{Reply}
 use Rattle.kte_core.specs.declared.reply.Reply.TheVariants as reply
+use Rattle.kte_core.specs.declared.request.OutsideCall.{OutsideCall}
 use Rattle.kte_core.specs.declared.request.Request.{Request}
 use Rattle.kte_core.specs.declared.request.Request.TheVariants.{Cmd, Close, Take, Deliver, GiveBack, Outcome}
+use Rattle.kte_core.proofs.CallerLemmas.{present-push}
+use Rattle.kte_core.proofs.JournalLemmas.{Legal-one_more}
 use Rattle.kte_core.proofs.CaseLemmas.{event_grows}
 use Rattle.kte_core.proofs.AllJobLemmas.{jobs_rise}
-use Rattle.kte_core.proofs.SeatLemmas.{free_stays}
-use Rattle.kte_run.specs.Schedule.{Due, Schedule, IsSettled, append_of, outcome_of, due_of, if_asked, asked_in, asked_for, depth_by, depth_after, WentWell, NoneFailed}
-use Rattle.kte_run.specs.Editor.{Part, IsOwn, IsAt, Follows, left, first_of, own}
-use Rattle.kte_run.specs.Alone.{NoneTaken, Alone, Asks, Drains}
-use Rattle.kte_run.proofs.EditorLemmas.{is_took, tells, came-command, came-close}
-use Rattle.kte_run.proofs.HistoryLemmas.{present-more, Alone-none, Alone-append, asked_in-append, append-settled}
+use Rattle.kte_core.proofs.SeatLemmas.{free_stays, only_close}
+use Rattle.kte_run.specs.declared.editor.Told.{Told}
+use Rattle.kte_run.specs.Schedule.{AllFit, Due, IsServed, append_of, asked_for, asked_from, asked_in, depth_after, depth_by, due_after, due_of, if_asked, lost_after, lost_by, nothing}
+use Rattle.kte_run.specs.Editor.{Part, IsOwn, IsAt, IsOwed, Follows, asked, asked_after, asked_left, asked_next, first_of, is_lost, left, next_after, next_of, own, telling}
+use Rattle.kte_run.specs.Alone.{NoneTaken, Asks, EachDue, due_left}
+use Rattle.kte_run.proofs.DueLemmas.{AllFit-last, EachDue-last, due_left-last, lost_after-last}
+use Rattle.kte_run.proofs.EditorLemmas.{came-close}
+use Rattle.kte_run.proofs.HistoryLemmas.{asked_in-append}
 
 -- ---- one request of the editor
-
-own-asked : (request : Request) → IsOwn request → if_asked request ≡ Some request
-own-asked (Cmd command) is = refl
-own-asked Close is = refl
-own-asked Take is = absurd is
-own-asked (Deliver job findings) is = absurd is
-own-asked (GiveBack job) is = absurd is
-own-asked (Outcome call ok) is = absurd is
 
 own-take : (request : Request) → IsOwn request → request ≢ Take
 own-take (Cmd command) is = λ take. cc
@@ -47,7 +46,7 @@ own-take Close is = λ take. cc
 own-take Take is = absurd is
 own-take (Deliver job findings) is = absurd is
 own-take (GiveBack job) is = absurd is
-own-take (Outcome call ok) is = absurd is
+own-take (Outcome call ok) is = λ take. cc
 
 own-ranges : (request : Request) → IsOwn request → ranges_of request ≡ suc zero
 own-ranges (Cmd command) is = refl
@@ -55,62 +54,71 @@ own-ranges Close is = refl
 own-ranges Take is = absurd is
 own-ranges (Deliver job findings) is = absurd is
 own-ranges (GiveBack job) is = absurd is
-own-ranges (Outcome call ok) is = absurd is
+own-ranges (Outcome call ok) is = refl
 
-own-untaken : (state : State) (request : Request) (answer : Reply) → IsOwn request → state.closed ≡ false → cut_at answer ≡ None
-    → IsAnswered state (own request answer) → is_took answer ≡ false
-own-untaken state (Cmd command) answer is still_open whole answered =
-    ap is_took (answered.reply ∙ ap (λ (c : Reaction). c.reply) (came-command state command answer still_open whole)) ∙ (tells state command).untaken
-own-untaken state Close answer is still_open whole answered =
-    ap is_took (answered.reply ∙ ap (λ (c : Reaction). c.reply) (came-close state answer still_open whole))
-own-untaken state Take answer is still_open whole answered = absurd is
-own-untaken state (Deliver job findings) answer is still_open whole answered = absurd is
-own-untaken state (GiveBack job) answer is still_open whole answered = absurd is
-own-untaken state (Outcome call ok) answer is still_open whole answered = absurd is
+own-finds : (state : State) (request : Request) → IsOwn request → Finds state 0 request
+own-finds state (Cmd command) is = tt
+own-finds state Close is = tt
+own-finds state Take is = absurd is
+own-finds state (Deliver job findings) is = absurd is
+own-finds state (GiveBack job) is = absurd is
+own-finds state (Outcome call ok) is = tt
 
-outcome-settled : (request : Request) (due : Due) → IsOwn request → IsSettled due → IsSettled (outcome_of request due)
-outcome-settled (Cmd Sync) due is settled = absurd is
-outcome-settled (Cmd Save) due is settled = absurd is
-outcome-settled _ due is settled = settled
+own-served : (state : State) (request : Request) (answer : Reply) → IsOwn request → IsServed 0 state 0 request answer
+own-served state (Cmd command) answer is = tt
+own-served state Close answer is = tt
+own-served state Take answer is = absurd is
+own-served state (Deliver job findings) answer is = absurd is
+own-served state (GiveBack job) answer is = absurd is
+own-served state (Outcome call ok) answer is = tt
 
-due-own : (request : Request) (finished : Option (List Primitive)) (answer : Reply) → IsOwn request → is_took answer ≡ false
-    → IsSettled (due_of request finished answer)
-due-own request finished (reply.Took job revision) is untaken = absurd (cc)
-due-own request finished reply.Asked is untaken = outcome-settled request (append_of finished) is (append-settled finished)
-due-own request finished _ is untaken = append-settled finished
+-- what comes of an outcome where memory did not run out
+pub came-outcome : (state : State) (call : OutsideCall) (ok : Bool) (answer : Reply) → cut_at answer ≡ None
+    → came_of state (own (Outcome call ok) answer) ≡ replied state reply.Noted
+came-outcome state call ok answer whole = ap (λ (at : Option ℕ). react_by state 0 (Outcome call ok) at) whole
 
-one-alone : (state : State) (request : Request) (answer : Reply) → IsOwn request → IsAnswered state (own request answer) → cut_at answer ≡ None
-    → ((finished : Option (List Primitive)) → IsSettled (due_of request finished answer)) → Alone state (own request answer ∷ [])
-one-alone state (Cmd command) answer is answered whole settled = record {
-  legal = (record { answered = answered; finds = tt }, tt);
-  fit = (record { seat = omega arith; whole = whole; served = tt }, tt);
-  in_turn = λ lost. (λ mine. tt, settled (came_of state (own (Cmd command) answer)).finished);
-  went_well = All-cons (λ event. WentWell event.request) (own (Cmd command) answer) [] tt (All-nil (λ event. WentWell event.request));
-}
-one-alone state Close answer is answered whole settled = record {
-  legal = (record { answered = answered; finds = tt }, tt);
-  fit = (record { seat = omega arith; whole = whole; served = tt }, tt);
-  in_turn = λ lost. (λ mine. tt, settled (came_of state (own Close answer)).finished);
-  went_well = All-cons (λ event. WentWell event.request) (own Close answer) [] tt (All-nil (λ event. WentWell event.request));
-}
-one-alone state Take answer is answered whole settled = absurd is
-one-alone state (Deliver job findings) answer is answered whole settled = absurd is
-one-alone state (GiveBack job) answer is answered whole settled = absurd is
-one-alone state (Outcome call ok) answer is answered whole settled = absurd is
+-- after an outcome nothing is called for, nor after the close of a session that is open
+due-outcome : (state : State) (call : OutsideCall) (ok : Bool) (answer : Reply) → cut_at answer ≡ None
+    → IsAnswered state (own (Outcome call ok) answer)
+    → due_of (Outcome call ok) (came_of state (own (Outcome call ok) answer)).finished answer ≡ nothing
+due-outcome state call ok answer whole answered =
+    let came = came-outcome state call ok answer whole in
+    let finished : Option (List Primitive) = (came_of state (own (Outcome call ok) answer)).finished in
+    ap (λ (a : Reply). due_of (Outcome call ok) finished a) (answered.reply ∙ ap (λ (c : Reaction). c.reply) came)
+    ∙ ap (λ (c : Reaction). append_of c.finished) came
+
+due-close : (state : State) (answer : Reply) → state.closed ≡ false → cut_at answer ≡ None → IsAnswered state (own Close answer)
+    → due_of Close (came_of state (own Close answer)).finished answer ≡ nothing
+due-close state answer still_open whole answered =
+    let came = came-close state answer still_open whole in
+    let finished : Option (List Primitive) = (came_of state (own Close answer)).finished in
+    ap (λ (a : Reply). due_of Close finished a) (answered.reply ∙ ap (λ (c : Reaction). c.reply) came)
+    ∙ ap (λ (c : Reaction). append_of c.finished) came
 
 -- ---- what is left
 
-left-open : (commands : List Command) (depth : ℕ) (closed failed : Bool) (request : Request)
-    → first_of (left (record { commands = commands; depth = depth; closed = closed; failed = failed })) ≡ Some request → closed ≡ false
-left-open commands depth true failed request first = absurd (cc)
-left-open commands depth false failed request first = refl
+-- what is left of a part with these fields
+abbrev left_by : List Command → ℕ → Bool → Bool → List Request
+left_by commands depth closed failed = if closed then [] else if failed then Close ∷ [] else asked_from depth commands
+
+-- the first of the requests that are left is a command or the close
+first-in : (commands : List Command) (request : Request) → first_of (map Cmd commands ++ Close ∷ []) ≡ Some request
+    → if_asked request ≡ Some request
+first-in [] request first = let is : Close ≡ request = cc in subst (λ (r : Request). if_asked r ≡ Some r) is refl
+first-in (command ∷ commands) request first =
+    let is : Cmd command ≡ request = cc in subst (λ (r : Request). if_asked r ≡ Some r) is refl
+
+first-asked : (commands : List Command) (depth : ℕ) (closed failed : Bool) (request : Request)
+    → first_of (left_by commands depth closed failed) ≡ Some request → if_asked request ≡ Some request
+first-asked commands depth true failed request first = absurd (cc)
+first-asked commands depth false true request first = first-in [] request first
+first-asked commands depth false false request first = first-in (commands ++ replicate (depth_after depth commands) End) request first
 
 never-first : (requests : List Request) → first_of (requests ++ Close ∷ []) ≡ None → ⊥
 never-first [] none = cc
 never-first (request ∷ requests) none = cc
 
-left-closed : (commands : List Command) (depth : ℕ) (closed failed : Bool)
-    → first_of (left (record { commands = commands; depth = depth; closed = closed; failed = failed })) ≡ None → closed ≡ true
+left-closed : (commands : List Command) (depth : ℕ) (closed failed : Bool) → first_of (left_by commands depth closed failed) ≡ None → closed ≡ true
 left-closed commands depth true failed none = refl
 left-closed commands depth false true none = absurd (cc)
 left-closed commands depth false false none =
@@ -119,6 +127,31 @@ left-closed commands depth false false none =
 none-left : (requests : List Request) → first_of requests ≡ None → requests ≡ []
 none-left [] none = refl
 none-left (request ∷ requests) none = absurd (cc)
+
+-- what is owed, and what is left, where nothing comes next
+next-none : (requests : List Request) (owed : Option Told) → next_after requests owed ≡ None → (owed ≡ None) × (first_of requests ≡ None)
+next-none requests None none = (refl, none)
+next-none requests (Some told) none = absurd (cc)
+
+-- nothing comes next of a part that is closed, unless something is owed
+next-open : (commands : List Command) (depth : ℕ) (closed failed : Bool) (owed : Option Told) (request : Request)
+    → next_after (left_by commands depth closed failed) owed ≡ Some request → (closed ≡ true → owed ≡ None) → closed ≡ false
+next-open commands depth false failed owed request next none = refl
+next-open commands depth true failed owed request next none =
+    let shut : next_after [] None ≡ Some request = ap (next_after []) (sym (none refl)) ∙ next in absurd (cc)
+
+-- the next request tells what is owed, or else is a command or the close
+abbrev pub NextBy : Option Told → Request → Type 0
+NextBy None request = if_asked request ≡ Some request
+NextBy (Some told) request = telling told ≡ request
+
+next_by : (commands : List Command) (depth : ℕ) (closed failed : Bool) (owed : Option Told) (request : Request)
+    → next_after (left_by commands depth closed failed) owed ≡ Some request → NextBy owed request
+next_by commands depth closed failed None request next = first-asked commands depth closed failed request next
+next_by commands depth closed failed (Some told) request next = cc
+
+pub next-by : (part : Part) (request : Request) → next_of part ≡ Some request → NextBy part.owed request
+next-by part request next = next_by part.commands part.depth part.closed part.failed part.owed request next
 
 depth-rises : (depth : ℕ) (command : Command) → depth_by depth command ≤ depth + 1
 depth-rises depth Begin = omega arith
@@ -141,6 +174,53 @@ length-asked commands =
       depth-few 0 commands,
     )
 
+-- ---- how much is left to do
+
+-- an outcome that is owed
+abbrev pub owed_count : Option Told → ℕ
+owed_count None = 0
+owed_count (Some told) = 1
+
+-- each request that is left may have an outcome
+abbrev pub work : Part → ℕ
+work part = 2 * length (left part) + owed_count part.owed
+
+owed-few : (owed : Option Told) → owed_count owed ≤ 1
+owed-few None = omega arith
+owed-few (Some told) = omega arith
+
+-- a request was asked for, or an outcome was told
+work-less : (state : State) (lost : Bool) (due : Due) (request : Request) (answer : Reply) (before after : Part)
+    → next_of before ≡ Some request → cut_at answer ≡ None → IsAnswered state (own request answer)
+    → Follows state lost due (own request answer) before after → work after + 1 ≤ work before
+work-less state lost due request answer before after next whole answered follows =
+    by before.owed refl next where
+      asked_one : if_asked request ≡ Some request → asked_in (own request answer ∷ []) ≡ request ∷ []
+      asked_one is = ap (λ (asked : Option Request). cons_option asked []) is
+
+      none_owed : (told : Told) → telling told ≡ request → owed_count after.owed ≡ 0
+      none_owed told is =
+          let nothing_due : due_after state due (own request answer) ≡ nothing =
+          subst (λ (r : Request). IsAnswered state (own r answer) → due_after state due (own r answer) ≡ nothing) is
+          (due-outcome state told.call told.ok answer whole) answered in
+          let none : after.owed ≡ None = subst (λ (d : Due). IsOwed d (lost_by lost request) after.owed) nothing_due follows.at.owed in
+          ap owed_count none
+
+      none_asked : (told : Told) → telling told ≡ request → asked_in (own request answer ∷ []) ≡ []
+      none_asked told is = subst (λ (r : Request). asked_in (own r answer ∷ []) ≡ []) is refl
+
+      by : (owed : Option Told) → before.owed ≡ owed → next_after (left before) owed ≡ Some request → work after + 1 ≤ work before
+      by None is first =
+          let one = asked_one (first-asked before.commands before.depth before.closed before.failed request first) in
+          let more : length (left before) ≡ suc (length (left after)) =
+          ap length follows.left ∙ ap (λ (requests : List Request). length (requests ++ left after)) one in
+          omega (arith, more, owed-few after.owed, ap owed_count is)
+      by (Some told) is first =
+          let same : telling told ≡ request = cc in
+          let more : length (left before) ≡ length (left after) =
+          ap length follows.left ∙ ap (λ (requests : List Request). length (requests ++ left after)) (none_asked told same) in
+          omega (arith, more, none_owed told same, ap owed_count is)
+
 -- ---- the requests so far
 
 -- the numbers after so many events
@@ -149,43 +229,78 @@ pub record Few (state : State) (n : ℕ) : Type 0 where
   pub jobs : length state.jobs ≤ n
   pub ranges : state.next_id ≤ n + 1
 
--- the requests of a script so far, and the part with those that are left
+-- the state that a session begins in
+abbrev pub first_state : Session → State
+first_state session = beginning session.loaded session.limit
+
+-- the requests of a script so far, from a session without events, and the part with those that are
+-- left. Once it is closed, nothing is called for
 pub record Asking (commands : List Command) (before now : Session) (part : Part) : Type 0 where
-  pub added : List Event
-  pub events : now ≡ record before { events = before.events ++ added }
-  pub alone : Alone (present before) added
-  pub ordered : asked_in added ++ left part ≡ asked_for commands
-  pub at : IsAt (present now) part
+  pub begun : now ≡ record before { events = now.events }
+  pub legal : Legal (first_state before) now.events
+  pub fit : AllFit 0 (first_state before) now.events
+  pub each_due : EachDue (first_state before) false nothing now.events
+  pub ordered : asked_in now.events ++ left part ≡ asked_for commands
+  pub at : IsAt (present now) (lost_after false now.events) (due_left (first_state before) nothing now.events) part
+  pub shut : part.closed ≡ true → due_left (first_state before) nothing now.events ≡ nothing
   pub none_taken : NoneTaken (present now)
-  pub few : Few (present now) (length added)
-  pub count : length added + length (left part) ≡ length (asked_for commands)
+  pub few : Few (present now) (length now.events)
+  pub count : length now.events + work part ≤ 2 * length (asked_for commands)
+
+-- the state now is that after the events
+pub present-begun : (before now : Session) → now ≡ record before { events = now.events } → present now ≡ replay (first_state before) now.events
+present-begun before now begun = ap present begun
+
+none_first : (loaded : Loaded) (limit : ℕ) → NoneTaken (beginning loaded limit)
+none_first loaded limit seat zero = refl
+none_first loaded limit seat (suc n) =
+    ap (λ (found : Option Job). taken_in seat (option_map (λ (job : Job). job.state) found)) (job_at_number [] (suc n) (omega arith))
+
+-- the part at first
+abbrev pub part_of : List Command → SwapView → Part
+part_of commands swap = record {
+  commands = commands;
+  depth = 0;
+  closed = false;
+  failed = false;
+  asking = None;
+  owed = None;
+  current = [];
+  swap = swap;
+  replace_failed = false;
+}
 
 -- nothing was asked for yet
-pub Asking-none : (commands : List Command) (before : Session) (part : Part) → before.events ≡ []
-    → part ≡ record { commands = commands; depth = 0; closed = false; failed = false } → Asking commands before before part
-Asking-none commands before part fresh is =
-    let state : present before ≡ beginning before.loaded before.limit = ap (replay (beginning before.loaded before.limit)) fresh in
-    record {
-      added = [];
-      events = sym (ap (λ (events : List Event). record before { events = events }) (append-nil before.events));
-      alone = Alone-none (present before);
-      ordered = ap left is;
-      at = record {
-        depth = ap (λ (s : State). s.editing.edits.depth) state ∙ sym (ap (λ (p : Part). p.depth) is);
-        closed = ap (λ (s : State). s.closed) state ∙ sym (ap (λ (p : Part). p.closed) is);
-      };
-      none_taken = subst NoneTaken (sym state) (none_first before.loaded before.limit);
-      few = subst (λ (s : State). Few s 0) (sym state) (record { depth = omega arith; jobs = omega arith; ranges = omega arith });
-      count = omega (arith, ap (λ (p : Part). length (left p)) is);
-    } where
-      none_first : (loaded : Loaded) (limit : ℕ) → NoneTaken (beginning loaded limit)
-      none_first loaded limit seat zero = refl
-      none_first loaded limit seat (suc n) =
-          ap (λ (found : Option Job). taken_in seat (option_map (λ (job : Job). job.state) found)) (job_at_number [] (suc n) (omega arith))
+pub Asking-none : (commands : List Command) (before : Session) (swap : SwapView) (part : Part) → before.events ≡ []
+    → part ≡ part_of commands swap → swap.state ≡ Guarded → Asking commands before before part
+Asking-none commands before swap part fresh is guarded =
+    subst (Asking commands before before) (sym is) (record {
+      begun = refl;
+      legal = subst (Legal first) (sym fresh) tt;
+      fit = subst (AllFit 0 first) (sym fresh) tt;
+      each_due = subst (EachDue first false nothing) (sym fresh) tt;
+      ordered = ap (λ (events : List Event). asked_in events ++ asked_for commands) fresh;
+      at = subst (λ (events : List Event). IsAt (replay first events) (lost_after false events) (due_left first nothing events) (part_of commands swap))
+          (sym fresh) (record {
+            depth = refl;
+            closed = refl;
+            current = refl;
+            shut = λ none. refl;
+            owed = refl;
+            lost = ap is_lost guarded;
+          });
+      shut = λ closed. absurd (cc);
+      none_taken = subst (λ (events : List Event). NoneTaken (replay first events)) (sym fresh) (none_first before.loaded before.limit);
+      few = subst (λ (events : List Event). Few (replay first events) (length events)) (sym fresh)
+          (record { depth = omega arith; jobs = omega arith; ranges = omega arith });
+      count = omega (arith, ap length fresh);
+    }) where
+      first : State
+      first = first_state before
 
 -- there are numbers for the next request
 pub Asking-numbers : (commands : List Command) (before now : Session) (part : Part) (request : Request) → Asking commands before now part
-    → length commands < 2 ^ 30 → IsOwn request → HasNumbers (present now) request
+    → length commands ≤ MAX_COMMANDS → IsOwn request → HasNumbers (present now) request
 Asking-numbers commands before now part request asking few is =
     let long = length-asked commands in
     let count = asking.count in
@@ -195,113 +310,173 @@ Asking-numbers commands before now part request asking few is =
     let one = own-ranges request is in
     record { depth = omega arith; jobs = omega arith; ranges = omega arith }
 
--- one request more
+-- one request more: what the core replied to it, and what the editor made of that
+pub record Asked (now next : Session) (part later : Part) (request : Request) (answer : Reply) : Type 0 where
+  pub next_is : next_of part ≡ Some request
+  pub own_is : IsOwn request
+  pub event : next ≡ record now { events = now.events ++ own request answer ∷ [] }
+  pub answered : IsAnswered (present now) (own request answer)
+  pub whole : cut_at answer ≡ None
+
+-- nothing was called for once the part was closed, so it is not, where something comes next
+still-open : (commands : List Command) (before now : Session) (part : Part) (request : Request) → Asking commands before now part
+    → next_of part ≡ Some request → part.closed ≡ false
+still-open commands before now part request asking next =
+    next-open part.commands part.depth part.closed part.failed part.owed request next
+    (λ closed. subst (λ (due : Due). IsOwed due (lost_after false now.events) part.owed) (asking.shut closed) asking.at.owed)
+
+pub Asking-work : (commands : List Command) (before now next : Session) (part later : Part) (request : Request) (answer : Reply)
+    → Asking commands before now part → Asked now next part later request answer
+    → Follows (present now) (lost_after false now.events) (due_left (first_state before) nothing now.events) (own request answer) part later
+    → work later + 1 ≤ work part
+Asking-work commands before now next part later request answer asking asked follows =
+    work-less (present now) (lost_after false now.events) (due_left (first_state before) nothing now.events) request answer part later
+    asked.next_is asked.whole asked.answered follows
+
+-- where the part is closed by an event, that was the close
+shut-last : (state : State) (due : Due) (request : Request) (answer : Reply) → state.closed ≡ false
+    → (after_event state (own request answer)).closed ≡ true → cut_at answer ≡ None → IsAnswered state (own request answer)
+    → due_after state due (own request answer) ≡ nothing
+shut-last state due request answer still_open closed whole answered =
+    subst (λ (r : Request). IsAnswered state (own r answer) → due_after state due (own r answer) ≡ nothing)
+    (sym (only_close state (own request answer) still_open closed)) (due-close state answer still_open whole) answered
+
 pub Asking-more : (commands : List Command) (before now next : Session) (part later : Part) (request : Request) (answer : Reply)
-    → Asking commands before now part → first_of (left part) ≡ Some request → IsOwn request → IsAllowed 0 request
-    → next ≡ record now { events = now.events ++ own request answer ∷ [] } → IsAnswered (present now) (own request answer) → cut_at answer ≡ None
-    → Follows (present now) (own request answer) part later → Asking commands before next later
-Asking-more commands before now next part later request answer asking first is allowed event answered whole follows =
-    let last : Event = own request answer in
-    let state : State = present now in
-    let grown = event_grows state last in
-    let rises = jobs_rise state last in
-    let one = own-ranges request is in
-    let depth = asking.few.depth in
-    let jobs = asking.few.jobs in
-    let ranges = asking.few.ranges in
-    let is_next : present next ≡ after_event state last = present-more now next (last ∷ []) event in
-    let was : state ≡ replay (present before) asking.added = present-more before now asking.added asking.events in
-    let still_open : state.closed ≡ false = asking.at.closed ∙ left-open part.commands part.depth part.closed part.failed request first in
-    let untaken = own-untaken state request answer is still_open whole answered in
-    let alone_one = one-alone state request answer is answered whole (λ finished. due-own request finished answer is untaken) in
-    let longer : length (asking.added ++ last ∷ []) ≡ length asking.added + 1 = length-append asking.added (last ∷ []) in
-    let asked_last : asked_in (last ∷ []) ≡ request ∷ [] = ap (λ (asked : Option Request). cons_option asked []) (own-asked request is) in
-    record {
-      added = asking.added ++ last ∷ [];
-      events = event
-          ∙ ap (λ (session : Session). record session { events = session.events ++ last ∷ [] }) asking.events
-          ∙ ap (λ (events : List Event). record before { events = events }) (append_assoc before.events asking.added (last ∷ []));
-      alone = Alone-append (present before) asking.added (last ∷ []) asking.alone (subst (λ (s : State). Alone s (last ∷ [])) was alone_one);
-      ordered = ap (λ (requests : List Request). requests ++ left later)
-          (asked_in-append asking.added (last ∷ []) ∙ ap (λ (requests : List Request). asked_in asking.added ++ requests) asked_last)
-          ∙ append_assoc (asked_in asking.added) (request ∷ []) (left later)
-          ∙ ap (λ (requests : List Request). asked_in asking.added ++ requests) (sym follows.left)
+    → Asking commands before now part → Asked now next part later request answer
+    → Follows (present now) (lost_after false now.events) (due_left (first_state before) nothing now.events) (own request answer) part later
+    → Asking commands before next later
+Asking-more commands before now next part later request answer asking asked follows =
+    subst (λ (session : Session). Asking commands before session later) (sym asked.event) (record {
+      begun = ap (λ (session : Session). record session { events = more }) asking.begun;
+      legal = Legal-one_more first now.events last asking.legal
+          (subst (λ (s : State). IsLegal s last) was (record { answered = asked.answered; finds = own-finds state request asked.own_is }));
+      fit = AllFit-last 0 first now.events last asking.fit
+          (record { seat = omega arith; whole = asked.whole; served = own-served (replay first now.events) request answer asked.own_is });
+      each_due = EachDue-last first false nothing now.events last asking.each_due (λ mine. follows.due);
+      ordered = ap (λ (requests : List Request). requests ++ left later) (asked_in-append now.events (last ∷ []))
+          ∙ append_assoc (asked_in now.events) (asked_in (last ∷ [])) (left later)
+          ∙ ap (λ (requests : List Request). asked_in now.events ++ requests) (sym follows.left)
           ∙ asking.ordered;
-      at = subst (λ (s : State). IsAt s later) (sym is_next) follows.at;
-      none_taken = subst NoneTaken (sym is_next) (λ seat. free_stays state last seat (asking.none_taken seat) (λ mine. own-take request is));
-      few = subst (λ (s : State). Few s (length (asking.added ++ last ∷ []))) (sym is_next)
-          (record { depth = omega (arith, grown.depth); jobs = omega (arith, rises); ranges = omega (arith, grown.next_id) });
-      count = omega (arith, asking.count, ap length follows.left);
-    }
+      at = subst (λ (s : State). IsAt s (lost_after false more) (due_left first nothing more) later) (sym is_next)
+          (subst (λ (lost : Bool). IsAt (after_event state last) lost (due_left first nothing more) later) (sym (lost_after-last false now.events last))
+          (subst (λ (d : Due). IsAt (after_event state last) (lost_by lost request) d later) (sym due_next) follows.at));
+      shut = λ closed. due_next
+          ∙ shut-last state due request answer (asking.at.closed ∙ still-open commands before now part request asking asked.next_is)
+          (follows.at.closed ∙ closed) asked.whole asked.answered;
+      none_taken = subst NoneTaken (sym is_next) (λ seat. free_stays state last seat (asking.none_taken seat) (λ mine. own-take request asked.own_is));
+      few = subst (λ (s : State). Few s (length more)) (sym is_next) numbers;
+      count = omega (arith, asking.count, longer, Asking-work commands before now next part later request answer asking asked follows);
+    }) where
+      first : State
+      first = first_state before
+
+      state : State
+      state = present now
+
+      last : Event
+      last = own request answer
+
+      lost : Bool
+      lost = lost_after false now.events
+
+      due : Due
+      due = due_left (first_state before) nothing now.events
+
+      more : List Event
+      more = now.events ++ own request answer ∷ []
+
+      was : present now ≡ replay (first_state before) now.events
+      was = present-begun before now asking.begun
+
+      is_next : present (record now { events = now.events ++ own request answer ∷ [] }) ≡ after_event (present now) (own request answer)
+      is_next = present-push now (own request answer)
+
+      longer : length (now.events ++ own request answer ∷ []) ≡ length now.events + 1
+      longer = length-append now.events (own request answer ∷ [])
+
+      due_next : due_left (first_state before) nothing (now.events ++ own request answer ∷ [])
+          ≡ due_after (present now) (due_left (first_state before) nothing now.events) (own request answer)
+      due_next = due_left-last (first_state before) nothing now.events (own request answer)
+          ∙ ap (λ (s : State). due_after s (due_left (first_state before) nothing now.events) (own request answer)) (sym was)
+
+      numbers : Few (after_event (present now) (own request answer)) (length (now.events ++ own request answer ∷ []))
+      numbers =
+          let grown = event_grows (present now) (own request answer) in
+          let rises = jobs_rise (present now) (own request answer) in
+          let one = own-ranges request asked.own_is in
+          let depth = asking.few.depth in
+          let jobs = asking.few.jobs in
+          let ranges = asking.few.ranges in
+          record { depth = omega (arith, grown.depth, longer); jobs = omega (arith, rises, longer); ranges = omega (arith, grown.next_id, longer) }
+
+-- nothing is owed where nothing comes next
+pub none-owed : (part : Part) → next_of part ≡ None → part.owed ≡ None
+none-owed part none = (next-none (left part) part.owed none).0
 
 -- all was asked for
-pub Asking-all : (commands : List Command) (before now : Session) (part : Part) → Asking commands before now part → length commands < 2 ^ 30
-    → first_of (left part) ≡ None → Asks commands before now
-Asking-all commands before now part asking few none =
-    let nothing_left : left part ≡ [] = none-left (left part) none in
+pub Asking-all : (commands : List Command) (before now : Session) (part : Part) → before.events ≡ [] → Asking commands before now part
+    → length commands ≤ MAX_COMMANDS → next_of part ≡ None → Asks commands before now
+Asking-all commands before now part fresh asking few none =
+    let parts = next-none (left part) part.owed none in
+    let nothing_left : left part ≡ [] = none-left (left part) parts.1 in
+    let closed = left-closed part.commands part.depth part.closed part.failed parts.1 in
     let long = length-asked commands in
     let count = asking.count in
     let depth = asking.few.depth in
     let jobs = asking.few.jobs in
     let ranges = asking.few.ranges in
     let waiting = count_by-le-length (λ (job : Job). is_waiting job.state) (present now).jobs in
+    let start : first_state before ≡ present before = sym (ap (replay (first_state before)) fresh) in
     record {
-      added = asking.added;
-      events = asking.events;
-      alone = asking.alone;
-      ordered = sym (append-nil (asked_in asking.added)) ∙ ap (λ (requests : List Request). asked_in asking.added ++ requests) (sym nothing_left) ∙ asking.ordered;
+      added = now.events;
+      events = asking.begun ∙ ap (λ (events : List Event). record before { events = events ++ now.events }) (sym fresh);
+      legal = subst (λ (s : State). Legal s now.events) start asking.legal;
+      fit = subst (λ (s : State). AllFit 0 s now.events) start asking.fit;
+      each_due = subst (λ (s : State). EachDue s false nothing now.events) start asking.each_due;
+      settled = subst (λ (s : State). due_left s nothing now.events ≡ nothing) start (asking.shut closed);
+      ordered = sym (append-nil (asked_in now.events)) ∙ ap (λ (requests : List Request). asked_in now.events ++ requests) (sym nothing_left) ∙ asking.ordered;
       can = record { depth = omega arith; jobs = omega arith; ranges = omega arith };
-      idle = record {
-        closed = asking.at.closed ∙ left-closed part.commands part.depth part.closed part.failed none;
-        none_taken = asking.none_taken;
-      };
+      idle = record { closed = asking.at.closed ∙ closed; none_taken = asking.none_taken };
     }
 
--- ---- the whole run
+-- ---- what asking keeps of the part
 
--- the session in the end
-ended : (commands : List Command) (before between after : Session) (asks : Asks commands before between) (drains : Drains between after)
-    → after ≡ record before { events = before.events ++ (asks.added ++ drains.serves.added) }
-ended commands before between after asks drains =
-    drains.serves.events
-    ∙ ap (λ (session : Session). record session { events = session.events ++ drains.serves.added }) asks.events
-    ∙ ap (λ (events : List Event). record before { events = events }) (append_assoc before.events asks.added drains.serves.added)
+pub record KeepsPart (part later : Part) : Type 0 where
+  pub depth : later.depth ≡ part.depth
+  pub current : later.current ≡ part.current
+  pub swap : later.swap ≡ part.swap
+  pub replace_failed : later.replace_failed ≡ part.replace_failed
 
-pub scheduled : (commands : List Command) (before between after : Session) → before.events ≡ [] → Asks commands before between
-    → Drains between after → Schedule commands 0 (beginning before.loaded before.limit) after.events
-scheduled commands before between after fresh asks drains =
-    let first : State = beginning before.loaded before.limit in
-    let all : List Event = asks.added ++ drains.serves.added in
-    let start : present before ≡ first = ap (replay first) fresh in
-    let at_end : after ≡ record before { events = all } =
-    ended commands before between after asks drains ∙ ap (λ (events : List Event). record before { events = events ++ all }) fresh in
-    let more : present between ≡ replay (present before) asks.added = present-more before between asks.added asks.events in
-    let alone : Alone first all =
-    subst (λ (state : State). Alone state all) start
-    (Alone-append (present before) asks.added drains.serves.added asks.alone
-    (subst (λ (state : State). Alone state drains.serves.added) more drains.serves.alone)) in
-    let whole : Schedule commands 0 first all = record {
-      legal = alone.legal;
-      fit = alone.fit;
-      ordered = asked_in-append asks.added drains.serves.added
-          ∙ ap (λ (requests : List Request). asked_in asks.added ++ requests) drains.serves.ordered
-          ∙ append-nil (asked_in asks.added) ∙ asks.ordered;
-      in_turn = alone.in_turn false;
-      done = subst (λ (session : Session). All (λ job. job.state ≡ Done) (present session).jobs) at_end drains.done;
-    } in
-    subst (Schedule commands 0 first) (sym (ap (λ (session : Session). session.events) at_end)) whole
+pick : (P : Part → Type 0) (b : Bool) (first second : Part) → P first → P second → P (if b then first else second)
+pick P true first second one other = one
+pick P false first second one other = other
 
-pub all_well : (commands : List Command) (before between after : Session) → before.events ≡ [] → Asks commands before between → Drains between after
-    → NoneFailed after.events
-all_well commands before between after fresh asks drains =
-    let all : List Event = asks.added ++ drains.serves.added in
-    let at_end : after ≡ record before { events = all } =
-    ended commands before between after asks drains ∙ ap (λ (events : List Event). record before { events = events ++ all }) fresh in
-    subst NoneFailed (sym (ap (λ (session : Session). session.events) at_end))
-    (All-append (λ event. WentWell event.request) asks.added drains.serves.added asks.alone.went_well drains.serves.alone.went_well)
+keeps-next : (commands : List Command) (depth : ℕ) (part : Part) → KeepsPart part (asked_next commands depth part)
+keeps-next (command ∷ commands) depth part = record { depth = refl; current = refl; swap = refl; replace_failed = refl }
+keeps-next [] (suc depth) part = record { depth = refl; current = refl; swap = refl; replace_failed = refl }
+keeps-next [] zero part = record { depth = refl; current = refl; swap = refl; replace_failed = refl }
 
-pub begun : (commands : List Command) (before between after : Session) → Asks commands before between → Drains between after
-    → after ≡ record before { events = after.events }
-begun commands before between after asks drains =
-    let at_end = ended commands before between after asks drains in
-    at_end ∙ ap (λ (events : List Event). record before { events = events }) (sym (ap (λ (session : Session). session.events) at_end))
+keeps-left : (part : Part) → KeepsPart part (asked_left part)
+keeps-left part =
+    pick (KeepsPart part) part.closed part
+    (if part.failed then record part { closed = true } else asked_next part.commands part.depth part)
+    (record { depth = refl; current = refl; swap = refl; replace_failed = refl })
+    (pick (KeepsPart part) part.failed (record part { closed = true }) (asked_next part.commands part.depth part)
+    (record { depth = refl; current = refl; swap = refl; replace_failed = refl }) (keeps-next part.commands part.depth part))
+
+keeps-after : (owed : Option Told) (part : Part) → KeepsPart part (asked_after owed part)
+keeps-after None part = keeps-left part
+keeps-after (Some told) part = record { depth = refl; current = refl; swap = refl; replace_failed = refl }
+
+pub keeps-asked : (part mid : Part) → mid ≡ asked part → KeepsPart part mid
+keeps-asked part mid is =
+    let kept = keeps-after part.owed (record part { asking = None }) in
+    subst (KeepsPart part) (sym is) (record { depth = kept.depth; current = kept.current; swap = kept.swap; replace_failed = kept.replace_failed })
+
+-- what was made fits, seen from the state before it
+pub fit-now : (state after : State) (event : Event) → after ≡ after_event state event
+    → FitInTurn after.editing.trail after.editing.loaded.text
+    → FitInTurn (after_event state event).editing.trail state.editing.loaded.text
+fit-now state after event is fit =
+    subst (λ (l : Loaded). FitInTurn (after_event state event).editing.trail l.text) (event_grows state event).loaded
+    (subst (λ (s : State). FitInTurn s.editing.trail s.editing.loaded.text) is fit)

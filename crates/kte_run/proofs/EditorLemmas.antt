@@ -1,5 +1,5 @@
 -- What the replies of the core make of the editor's part.
-use Rattle.std.proofs.Common.{◌≡◌, ℕ, zero, suc, ◌<◌, ◌==◌, Bool, true, false, List, [], ◌∷◌, Option, None, Some, if◌then◌else◌, refl, ap, sym, subst, ◌∙◌, inl, inr, arith}
+use Rattle.std.proofs.Common.{◌≡◌, ℕ, zero, suc, ◌<◌, ◌==◌, Bool, true, false, List, [], Option, None, Some, if◌then◌else◌, refl, ap, sym, ◌∙◌, inl, inr, arith}
 use Rattle.std.specs.FinMap.{get}
 use Rattle.std.proofs.lemmas.Bool.{cases_Bool, eqb-true}
 use Rattle.kte_text.specs.declared.primitive.Primitive.{Primitive}
@@ -8,7 +8,6 @@ use Rattle.kte_place.specs.declared.span.Expand.{Expand}
 use Rattle.kte_place.specs.declared.span.Empty.{Empty}
 use Rattle.kte_history.specs.declared.lock.Owner.TheVariants as owner
 use Rattle.kte_history.specs.Locks.{has_lock}
-use Rattle.kte_undo.specs.Groups.{closed}
 use Rattle.kte_undo.specs.Steps.{steps_along}
 use Rattle.kte_edit.specs.Steps.{steps_of}
 use Rattle.kte_command.specs.declared.command.Command.{Command}
@@ -21,11 +20,10 @@ use Rattle.kte_core.specs.declared.reply.Reply.{Reply}
 use Rattle.kte_core.specs.declared.reply.Reply.TheVariants as reply
 use Rattle.kte_core.specs.declared.reply.Refusal.{Refusal}
 use Rattle.kte_core.specs.declared.reply.Refusal.TheVariants.{Closed}
-use Rattle.kte_core.specs.declared.request.Request.{Request}
 use Rattle.kte_core.specs.declared.request.Request.TheVariants.{Cmd, Close}
 use Rattle.kte_core.proofs.TransactionLemmas.{depth-ended, depth-noted}
 use Rattle.kte_run.specs.Schedule.{depth_by, asked_from}
-use Rattle.kte_run.specs.Editor.{Part, left, first_of, asked, depth_told, told, IsAt, Follows, own}
+use Rattle.kte_run.specs.Editor.{Part, left, first_of, next_of, depth_told, own}
 
 -- the seat has taken a job
 abbrev pub is_took : Reply → Bool
@@ -134,12 +132,12 @@ came-close state answer still_open whole =
     ∙ ap (λ (b : Bool). if b then refused state Closed else close state) still_open
 
 -- a command, after which the depth is the one that its reply tells
-record Knows (state : State) (command : Command) (answer : Reply) : Type 0 where
-  told : depth_told answer state.editing.edits.depth ≡ depth_by state.editing.edits.depth command
-  depth : (after_event state (own (Cmd command) answer)).editing.edits.depth ≡ depth_by state.editing.edits.depth command
-  closed : (after_event state (own (Cmd command) answer)).closed ≡ state.closed
+pub record Knows (state : State) (command : Command) (answer : Reply) : Type 0 where
+  pub told : depth_told answer state.editing.edits.depth ≡ depth_by state.editing.edits.depth command
+  pub depth : (after_event state (own (Cmd command) answer)).editing.edits.depth ≡ depth_by state.editing.edits.depth command
+  pub closed : (after_event state (own (Cmd command) answer)).closed ≡ state.closed
 
-knows : (state : State) (command : Command) (answer : Reply) → state.closed ≡ false → cut_at answer ≡ None
+pub knows : (state : State) (command : Command) (answer : Reply) → state.closed ≡ false → cut_at answer ≡ None
     → IsAnswered state (own (Cmd command) answer) → Knows state command answer
 knows state command answer still_open whole answered =
     let came = came-command state command answer still_open whole in
@@ -149,85 +147,6 @@ knows state command answer still_open whole answered =
       depth = ap (λ (c : Reaction). c.after.editing.edits.depth) came ∙ tell.depth;
       closed = ap (λ (c : Reaction). c.after.closed) came ∙ tell.closed;
     }
-
--- the next command
-follows-command : (state : State) (command : Command) (commands : List Command) (answer : Reply) (depth : ℕ)
-    → state.editing.edits.depth ≡ depth → state.closed ≡ false → cut_at answer ≡ None → IsAnswered state (own (Cmd command) answer)
-    → Follows state (own (Cmd command) answer) (record { commands = command ∷ commands; depth = depth; closed = false; failed = false })
-    (record { commands = commands; depth = depth_told answer depth; closed = false; failed = false })
-follows-command state command commands answer depth at still_open whole answered =
-    let known = knows state command answer still_open whole answered in
-    let now : depth_told answer depth ≡ depth_by depth command =
-    ap (depth_told answer) (sym at) ∙ known.told ∙ ap (λ d. depth_by d command) at in
-    record {
-      left = ap (λ d. Cmd command ∷ asked_from d commands) (sym now);
-      at = record { depth = known.depth ∙ ap (λ d. depth_by d command) at ∙ sym now; closed = known.closed ∙ still_open };
-    }
-
--- the end of a transaction that the commands have left open
-follows-end : (state : State) (answer : Reply) (depth : ℕ)
-    → state.editing.edits.depth ≡ suc depth → state.closed ≡ false → cut_at answer ≡ None → IsAnswered state (own (Cmd End) answer)
-    → Follows state (own (Cmd End) answer) (record { commands = []; depth = suc depth; closed = false; failed = false })
-    (record { commands = []; depth = depth_told answer (suc depth); closed = false; failed = false })
-follows-end state answer depth at still_open whole answered =
-    let known = knows state End answer still_open whole answered in
-    let less : depth_by (suc depth) End ≡ depth = omega arith in
-    let now : depth_told answer (suc depth) ≡ depth =
-    ap (depth_told answer) (sym at) ∙ known.told ∙ ap (λ d. depth_by d End) at ∙ less in
-    record {
-      left = ap (λ d. Cmd End ∷ asked_from d []) (sym now);
-      at = record { depth = known.depth ∙ ap (λ d. depth_by d End) at ∙ less ∙ sym now; closed = known.closed ∙ still_open };
-    }
-
--- the close
-follows-close : (state : State) (answer : Reply) (commands : List Command) (depth : ℕ) (failed : Bool)
-    → left (record { commands = commands; depth = depth; closed = false; failed = failed }) ≡ Close ∷ []
-    → state.editing.edits.depth ≡ depth → state.closed ≡ false → cut_at answer ≡ None → IsAnswered state (own Close answer)
-    → Follows state (own Close answer) (record { commands = commands; depth = depth; closed = false; failed = failed })
-    (record { commands = commands; depth = depth_told answer depth; closed = true; failed = failed })
-follows-close state answer commands depth failed last at still_open whole answered =
-    let came = came-close state answer still_open whole in
-    let same : depth_told answer depth ≡ depth =
-    ap (λ (r : Reply). depth_told r depth) (answered.reply ∙ ap (λ (c : Reaction). c.reply) came) in
-    record {
-      left = last;
-      at = record {
-        depth = ap (λ (c : Reaction). c.after.editing.edits.depth) came ∙ at ∙ sym same;
-        closed = ap (λ (c : Reaction). c.after.closed) came;
-      };
-    }
-
--- the first request that is left is this one
-along : (state : State) (first request : Request) (answer : Reply) (before after : Part) → first ≡ request
-    → (IsAnswered state (own first answer) → Follows state (own first answer) before after)
-    → IsAnswered state (own request answer) → Follows state (own request answer) before after
-along state first request answer before after is by =
-    subst (λ (r : Request). IsAnswered state (own r answer) → Follows state (own r answer) before after) is by
-
--- by a reply that the core may give to the first request that is left, the others are left
-follows-by : (commands : List Command) (depth : ℕ) (closed failed : Bool) (state : State) (request : Request) (answer : Reply)
-    → first_of (left (record { commands = commands; depth = depth; closed = closed; failed = failed })) ≡ Some request
-    → state.editing.edits.depth ≡ depth → state.closed ≡ closed → cut_at answer ≡ None → IsAnswered state (own request answer)
-    → Follows state (own request answer) (record { commands = commands; depth = depth; closed = closed; failed = failed })
-    (told answer (asked (record { commands = commands; depth = depth; closed = closed; failed = failed })))
-follows-by commands depth true failed state request answer first at shut whole answered = absurd (cc)
-follows-by commands depth false true state request answer first at shut whole answered =
-    along state (Close) request answer _ _ (cc)
-    (follows-close state answer commands depth true refl at shut whole) answered
-follows-by (command ∷ commands) depth false false state request answer first at shut whole answered =
-    along state (Cmd command) request answer _ _ (cc)
-    (follows-command state command commands answer depth at shut whole) answered
-follows-by [] zero false false state request answer first at shut whole answered =
-    along state (Close) request answer _ _ (cc)
-    (follows-close state answer [] zero false refl at shut whole) answered
-follows-by [] (suc depth) false false state request answer first at shut whole answered =
-    along state (Cmd End) request answer _ _ (cc)
-    (follows-end state answer depth at shut whole) answered
-
-follows : (before : Part) (state : State) (request : Request) (answer : Reply) → first_of (left before) ≡ Some request → IsAt state before
-    → IsAnswered state (own request answer) → cut_at answer ≡ None → Follows state (own request answer) before (told answer (asked before))
-follows before state request answer first at answered whole =
-    follows-by before.commands before.depth before.closed before.failed state request answer first at.depth at.closed whole answered
 
 -- a reply that is no Cut was not cut
 pub uncut : (answer : Reply) → ((steps revision depth : ℕ) → answer ≡ reply.Cut steps revision depth → ⊥) → cut_at answer ≡ None
@@ -249,19 +168,14 @@ uncut reply.Closed never = refl
 uncut (reply.Refused refusal) never = refl
 
 -- an end comes next while a transaction is open and no command is left
-pub first-end : (commands : List Command) (depth : ℕ) (closed failed : Bool) → closed ≡ false → failed ≡ false → commands ≡ [] → 0 < depth
-    → Some (Cmd End) ≡ first_of (left (record { commands = commands; depth = depth; closed = closed; failed = failed }))
-first-end commands zero closed failed still_open sound none some = absurd (omega arith)
-first-end commands (suc depth) closed failed still_open sound none some = rw (still_open, sound, none) refl
+first-end : (part : Part) → part.closed ≡ false → part.failed ≡ false → part.commands ≡ [] → 0 < part.depth
+    → first_of (left part) ≡ Some (Cmd End)
+first-end part still_open sound none some =
+    rw (still_open, sound, none) (end-first part.depth some) where
+      end-first : (depth : ℕ) → 0 < depth → first_of (asked_from depth []) ≡ Some (Cmd End)
+      end-first zero some = absurd (omega arith)
+      end-first (suc depth) some = refl
 
--- what was told of the part as its fields, is told of the part
-pub follows-told : (was : Part) (before : Part) (answer : Reply) (depth : ℕ) → was ≡ before → depth ≡ depth_told answer was.depth
-    → record was { depth = depth } ≡ told answer before
-follows-told was before answer depth is now = ap (λ (d : ℕ). record was { depth = d }) now ∙ ap (told answer) is
-
-pub follows-now : (was after before : Part) (state : State) (request : Request) (answer : Reply) → after ≡ told answer was → was ≡ asked before
-    → first_of (left before) ≡ Some request → IsAt state before → IsAnswered state (own request answer) → cut_at answer ≡ None
-    → Follows state (own request answer) before after
-follows-now was after before state request answer now is first at answered whole =
-    subst (λ (part : Part). Follows state (own request answer) before part) (ap (told answer) (sym is) ∙ sym now)
-    (follows before state request answer first at answered whole)
+pub end-next : (part : Part) → part.owed ≡ None → part.closed ≡ false → part.failed ≡ false → part.commands ≡ [] → 0 < part.depth
+    → Some (Cmd End) ≡ next_of part
+end-next part settled still_open sound none some = rw settled (sym (first-end part still_open sound none some))

@@ -1,7 +1,9 @@
 -- The saved file, read and loaded.
-use Rattle.std.proofs.Common.{◌≡◌, ◌≢◌, ◌↔◌, ◌<◌, IsSomeAnd, IsErrAnd, IfErr, arith, ℕ, List, [], ◌∷◌, ◌++◌, refl, length, take, drop, Option, Some, None, Result, Ok, Err, IfSome, sym, subst, ap, ◌∙◌}
+use Rattle.std.proofs.Common.{◌≡◌, ◌≢◌, ◌↔◌, ◌<◌, ◌≤◌, IsSomeAnd, IsErrAnd, IfErr, arith, ℕ, List, [], ◌∷◌, ◌++◌, refl, length, take, drop, Option, Some, None, Result, Ok, Err, IfSome, sym, subst, ap, ◌∙◌}
 use Rattle.std.proofs.Math.Seq.{take-length}
-use Rattle.kte_text.specs.Files.{Loads, Refuses}
+use Rattle.kte_causes.specs.Moments.{Moment, AddsMoments, Staying, latest, swap_now}
+use Rattle.kte_causes.proofs.CallerLemmas.{swap_now-stays}
+use Rattle.kte_text.specs.Files.{Refuses}
 use Rattle.kte_text.specs.declared.loading.Loaded.{Loaded}
 use Rattle.kte_text.specs.declared.loading.LoadFault.{LoadFault}
 use Rattle.kte_text.specs.declared.loading.LoadFault.TheVariants as load
@@ -27,7 +29,7 @@ front n xs ys is = ap (λ (k : ℕ). take k (xs ++ ys)) is ∙ front_all xs ys
 abbrev pub TellsOn : Option (List ℕ) → Option (List ℕ) → Type 0
 TellsOn before after = IfSome before (λ file. after ≡ Some file)
 
-later : (P : List ℕ → Type 0) (before after : Option (List ℕ)) → TellsOn before after → IfSome after P → IfSome before P
+pub later : (P : List ℕ → Type 0) (before after : Option (List ℕ)) → TellsOn before after → IfSome after P → IfSome before P
 later P None after on h = tt
 later P (Some file) after on h = subst (λ (o : Option (List ℕ)). IfSome o P) on h
 
@@ -45,17 +47,11 @@ pub measured : (saved mid : Option (List ℕ)) (n : ℕ) → TellsOn saved mid �
 measured saved mid n on long = later (λ file. n ≡ length file) saved mid on long
 
 -- a file that was loaded is not refused
-loadable : (file : List ℕ) (loaded : Loaded) (result : Result Loaded LoadFault) → result ≡ Ok loaded → ((fault : LoadFault) → fault ≢ load.NoMemory → (result ≡ Err fault) ↔ Refuses file fault) → IsLoadable file
+pub loadable : (file : List ℕ) (loaded : Loaded) (result : Result Loaded LoadFault) → result ≡ Ok loaded → ((fault : LoadFault) → fault ≢ load.NoMemory → (result ≡ Err fault) ↔ Refuses file fault) → IsLoadable file
 loadable file loaded result is refused load.LongFile refuses = let never = (refused load.LongFile (λ same. cc)).1 refuses in cc
 loadable file loaded result is refused (load.NotUtf8 at) refuses = let never = (refused (load.NotUtf8 at) (λ same. cc)).1 refuses in cc
 loadable file loaded result is refused (load.TooLarge size) refuses = let never = (refused (load.TooLarge size) (λ same. cc)).1 refuses in cc
 loadable file loaded result is refused load.NoMemory refuses = refuses
-
--- what was loaded from the bytes of the file was loaded from the file
-pub told : (saved : Option (List ℕ)) (bytes : List ℕ) (loaded : Loaded) (result : Result Loaded LoadFault) → IfSome saved (λ file. bytes ≡ file) → result ≡ Ok loaded → Loads bytes loaded → ((fault : LoadFault) → fault ≢ load.NoMemory → (result ≡ Err fault) ↔ Refuses bytes fault) → IfSome saved (λ file. Loads file loaded × IsLoadable file)
-told None bytes loaded result same is loads refused = tt
-told (Some file) bytes loaded result same is loads refused =
-    (subst (λ (b : List ℕ). Loads b loaded) same loads, subst IsLoadable same (loadable bytes loaded result is refused))
 
 -- what is said of the bytes is said of the file that they are
 pub refused_file : (saved : Option (List ℕ)) (bytes : List ℕ) (fault : LoadFault) → IfSome saved (λ file. bytes ≡ file) → Refuses bytes fault → IfSome saved (λ file. Refuses file fault)
@@ -78,7 +74,13 @@ fault_in (status.BadWords at) = load.NoMemory
 fault_in status.ReadFault = load.NoMemory
 fault_in (status.BadScript fault) = load.NoMemory
 fault_in status.DiskFault = load.NoMemory
+fault_in (status.SwapPresent bytes) = load.NoMemory
+fault_in status.SwapLost = load.NoMemory
 fault_in status.WriteFault = load.NoMemory
+fault_in status.NoSwap = load.NoMemory
+fault_in status.Version = load.NoMemory
+fault_in (status.FileChanged kept found) = load.NoMemory
+fault_in (status.Damaged at done) = load.NoMemory
 
 fault_in-file_status : (fault : LoadFault) → fault_in (file_status fault) ≡ fault
 unfolding fault_in
@@ -109,11 +111,11 @@ long_comes (Some file) n given (load.TooLarge size) is measured much refuses = a
 long_comes (Some file) n given load.NoMemory is measured much refuses = absurd refuses
 
 -- the status of a fault that went up
-pub err_status : (r : Result Loaded Status) (fault : LoadFault) (given : Status) → IsErrAnd r (λ s. s ≡ file_status fault) → r ≡ Err given → given ≡ file_status fault
+pub err_status : {T : Type 0} (r : Result T Status) (fault : LoadFault) (given : Status) → IsErrAnd r (λ s. s ≡ file_status fault) → r ≡ Err given → given ≡ file_status fault
 err_status (Ok v) fault given is as_err = absurd is
 err_status (Err s) fault given is as_err = let same : s ≡ given = cc in sym same ∙ is
 
-pub err_any : (r : Result Loaded Status) (fault : LoadFault) (Q : Status → Type 0) → IsErrAnd r (λ s. s ≡ file_status fault) → ((s : Status) → s ≡ file_status fault → Q s) → IfErr r Q
+pub err_any : {T : Type 0} (r : Result T Status) (fault : LoadFault) (Q : Status → Type 0) → IsErrAnd r (λ s. s ≡ file_status fault) → ((s : Status) → s ≡ file_status fault → Q s) → IfErr r Q
 err_any (Ok v) fault Q is f = absurd is
 err_any (Err s) fault Q is f = f s is
 
@@ -123,3 +125,42 @@ not_memory bytes load.LongFile refuses = λ e. cc e
 not_memory bytes (load.NotUtf8 at) refuses = λ e. cc e
 not_memory bytes (load.TooLarge size) refuses = λ e. cc e
 not_memory bytes load.NoMemory refuses = absurd refuses
+
+-- ---- the swap file
+
+-- what is said of the bytes that are told is said of these
+pub if_is : (o : Option (List ℕ)) (P : List ℕ → Type 0) (bytes : List ℕ) → IfSome o P → o ≡ Some bytes → P bytes
+if_is o P bytes holds is = subst (λ (x : Option (List ℕ)). IfSome x P) is holds
+
+pub some_same : (a b : List ℕ) → ◌≡◌ {A = Option (List ℕ)} (Some a) (Some b) → a ≡ b
+some_same a b same = cc
+
+-- the length of the swap file
+pub swap_measured : (n : ℕ) (before after : Option (List Moment)) → AddsMoments Staying before after → IfSome after (λ ms. n ≡ length (latest ms).swap) → IfSome (swap_now before) (λ swap. n ≡ length swap)
+swap_measured n None after stays long = tt
+swap_measured n (Some b) None stays long = absurd stays
+swap_measured n (Some b) (Some c) stays long = long ∙ ap (λ (swap : List ℕ). length swap) (some_same (latest c).swap (latest b).swap (swap_now-stays (Some b) (Some c) stays))
+
+pub swap_length : (o : Option (List ℕ)) (n : ℕ) (swap : List ℕ) → IfSome o (λ s. n ≡ length s) → o ≡ Some swap → n ≡ length swap
+swap_length o n swap long is = if_is o (λ s. n ≡ length s) swap long is
+
+-- one that has bytes is not empty
+pub swap_there : (o : Option (List ℕ)) (n bytes : ℕ) → n ≡ bytes → IfSome o (λ s. n ≡ length s) → 0 < n → IfSome o (λ s. (bytes ≡ length s) × (s ≢ []))
+swap_there None n bytes same long some = tt
+swap_there (Some []) n bytes same long some = absurd (omega (arith, long, some))
+swap_there (Some (byte ∷ s)) n bytes same long some = (sym same ∙ long, λ is. cc is)
+
+-- .. and one that has none is
+pub swap_empty : (o : Option (List ℕ)) (n : ℕ) → IfSome o (λ s. n ≡ length s) → n ≤ 0 → IfSome o (λ s. s ≡ [])
+swap_empty None n long none = tt
+swap_empty (Some []) n long none = refl
+swap_empty (Some (byte ∷ s)) n long none = absurd (omega (arith, long, none))
+
+-- a swap file that is empty is not there
+pub swap_both : (o : Option (List ℕ)) (swap : List ℕ) → IfSome o (λ s. s ≡ []) → o ≡ Some swap → swap ≢ [] → ⊥
+swap_both o swap empty there some = some (if_is o (λ s. s ≡ []) swap empty there)
+
+-- what holds of the swap bytes of the last moment, in the words of a disk's clauses
+pub swap_now-holds : (P : List ℕ → Type 0) (x : Option (List Moment)) → IfSome x (λ ms. P (latest ms).swap) → IfSome (swap_now x) P
+swap_now-holds P None h = tt
+swap_now-holds P (Some ms) h = h

@@ -1,5 +1,5 @@
 -- Events that the editor alone adds, one after another.
-use Rattle.std.proofs.Common.{◌≡◌, ◌∙◌, ℕ, Bool, true, false, List, [], ◌∷◌, ◌++◌, inl, if◌then◌else◌, nat_eq, refl, ap, sym, subst, append_assoc, append-nil, Option, Some, None}
+use Rattle.std.proofs.Common.{◌≡◌, ◌∙◌, Bool, true, false, List, [], ◌∷◌, ◌++◌, inl, if◌then◌else◌, nat_eq, refl, ap, sym, subst, append_assoc, append-nil, Option, Some, None}
 use Rattle.std.proofs.lemmas.List.Elements.{filter_map-append, All-append, All-nil}
 use Rattle.kte_text.specs.declared.primitive.Primitive.{Primitive}
 use Rattle.kte_core.specs.State.{State}
@@ -7,8 +7,9 @@ use Rattle.kte_core.specs.Replay.{Session, beginning, present, replay, after_eve
 use Rattle.kte_core.specs.declared.event.Event.{Event}
 use Rattle.kte_core.specs.declared.request.Request.{Request}
 use Rattle.kte_core.proofs.JournalLemmas.{replay-append, Legal-append}
-use Rattle.kte_run.specs.Schedule.{Due, nothing, append, outcome, delivery, AllFit, InTurn, IsDue, IsSettled, asked_in, if_asked, due_of, lost_by, WentWell, append_of}
+use Rattle.kte_run.specs.Schedule.{Due, nothing, append, outcome, delivery, InTurn, IsDue, IsSettled, asked_in, if_asked, due_of, lost_by, WentWell, append_of}
 use Rattle.kte_run.specs.Alone.{Alone, Serves}
+use Rattle.kte_run.proofs.DueLemmas.{AllFit-append}
 
 -- the state after some events more
 pub present-more : (before after : Session) (added : List Event) → after ≡ record before { events = before.events ++ added }
@@ -49,11 +50,6 @@ InTurn-append state lost due (event ∷ events) more turn later = (
   InTurn-append (after_event state event) (lost_by lost event.request)
       (if nat_eq event.seat 0 then due_of event.request (came_of state event).finished event.reply else due) events more turn.1 later,
 )
-
-AllFit-append : (workers : ℕ) (state : State) (events more : List Event) → AllFit workers state events → AllFit workers (replay state events) more
-    → AllFit workers state (events ++ more)
-AllFit-append workers state [] more fit later = later
-AllFit-append workers state (event ∷ events) more fit later = (fit.0, AllFit-append workers (after_event state event) events more fit.1 later)
 
 pub Alone-none : (state : State) → Alone state []
 Alone-none state = record { legal = tt; fit = tt; in_turn = λ lost. tt; went_well = All-nil (λ event. WentWell event.request) }

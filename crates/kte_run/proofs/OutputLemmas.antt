@@ -1,49 +1,189 @@
 -- What is printed for a script and a file.
-use Rattle.std.proofs.Common.{◌≡◌, ◌∙◌, ℕ, List, [], ◌++◌, Ok, Result, sym, ap, subst}
+use Rattle.std.proofs.Common.{◌≡◌, ◌∙◌, ◌⊎◌, inl, inr, ℕ, ◌+◌, ◌≤◌, Bool, true, false, List, [], ◌∷◌, ◌++◌, Option, Ok, Result, refl, sym, ap, subst, arith}
+use Rattle.std.proofs.lemmas.Bool.{true≢false}
+use Rattle.std.proofs.lemmas.List.Elements.{All-nil, All-cons}
+use Rattle.kte_causes.specs.Faults.{Rose}
+use Rattle.kte_causes.specs.DiskFaults.{AllStay}
+use Rattle.kte_causes.specs.declared.causes.DiskCall.{DiskCall}
+use Rattle.kte_causes.specs.declared.causes.DiskCall.TheVariants.{SavedLen, SavedAt, SwapLen, SwapAt, Append, Sync, Replace, Reset}
 use Rattle.kte_text.specs.declared.loading.Loaded.{Loaded}
 use Rattle.kte_text.proofs.FileLemmas.{Loads_same}
+use Rattle.kte_causes.specs.Moments.{Moment}
+use Rattle.kte_swap.specs.Swap.{SwapView}
 use Rattle.kte_command.specs.declared.command.Command.{Command}
 use Rattle.kte_script.specs.declared.fault.ScriptFault.{ScriptFault}
 use Rattle.kte_core.specs.Replay.{Session, beginning, present, replay}
 use Rattle.kte_core.specs.declared.event.Event.{Event}
+use Rattle.kte_core.specs.declared.request.OutsideCall.TheVariants as Call
+use Rattle.kte_core.specs.declared.request.Request.{Request}
+use Rattle.kte_core.specs.declared.request.Request.TheVariants.{Cmd, Close, Take, Deliver, GiveBack, Outcome}
 use Rattle.kte_report.specs.Journal.{journal_text}
 use Rattle.kte_report.specs.Report.{report}
 use Rattle.kte_run.specs.declared.TheConstants.{MAX_REVISIONS}
-use Rattle.kte_run.specs.Run.{start_of, Prints, Outputs}
-use Rattle.kte_run.specs.Schedule.{NoneFailed, Schedule}
+use Rattle.kte_run.specs.declared.status.Status.{Status}
+use Rattle.kte_run.specs.declared.status.Status.TheVariants as status
+use Rattle.kte_run.specs.Outcomes.{Begins, Counted, IsEnding, Keeps, RoseBy, AtLast, append_charge, call_charge, calls_of, failed_appends, failed_calls}
+use Rattle.kte_run.specs.Run.{CallsStay, DidNotRise, Outer, Outputs, OutputsWell, Prints, PrintsEvents, start_of}
+use Rattle.kte_run.specs.Schedule.{NoneFailed, Schedule, WentWell, lost_by}
 use Rattle.kte_run.proofs.OneHistory.{one_schedule}
 
--- one output is printed for some commands after loading
-Prints-same : (commands : List Command) (loaded : Loaded) (a b : List ℕ) → Prints commands loaded a → Prints commands loaded b → a ≡ b
-Prints-same commands loaded a b one other =
-    let same : one.events ≡ other.events =
-    one_schedule loaded MAX_REVISIONS commands one.events other.events one.schedule one.went_well other.schedule other.went_well in
-    one.printed ∙ ap (λ (events : List Event). journal_text events ++ report (replay (start_of loaded) events)) same ∙ sym other.printed
+-- ---- one output
+
+-- one output is printed for some commands after loading, where no call failed
+Prints-same : (commands : List Command) (loaded : Loaded) (one other : List Event) (a b : List ℕ)
+    → PrintsEvents commands loaded one a → NoneFailed one → PrintsEvents commands loaded other b → NoneFailed other → a ≡ b
+Prints-same commands loaded one other a b p well q fine =
+    let same : one ≡ other = one_schedule loaded MAX_REVISIONS commands one other p.schedule well q.schedule fine in
+    p.printed ∙ ap (λ (events : List Event). journal_text events ++ report (replay (start_of loaded) events)) same ∙ sym q.printed
 
 ok-same : (a b : List Command) → ◌≡◌ {A = Result (List Command) ScriptFault} (Ok a) (Ok b) → a ≡ b
 ok-same a b same = cc
 
 -- .. and so for a script and a file
-pub Outputs-same : (script file a b : List ℕ) → Outputs script file a → Outputs script file b → a ≡ b
-Outputs-same script file a b one other =
+pub OutputsWell-same : (script file a b : List ℕ) → OutputsWell script file a → OutputsWell script file b → a ≡ b
+OutputsWell-same script file a b one other =
     let commands : one.commands ≡ other.commands = ok-same one.commands other.commands (sym one.spelled ∙ other.spelled) in
     let loaded : one.loaded ≡ other.loaded = Loads_same file one.loaded other.loaded one.loads other.loads in
-    Prints-same other.commands other.loaded a b
-    (subst (λ (l : Loaded). Prints other.commands l a) loaded (subst (λ (cs : List Command). Prints cs one.loaded a) commands one.prints))
-    other.prints
+    Prints-same other.commands other.loaded one.events other.events a b
+    (subst (λ (l : Loaded). PrintsEvents other.commands l one.events a) loaded (subst (λ (cs : List Command). PrintsEvents cs one.loaded one.events a) commands one.prints))
+    one.well other.prints other.well
+
+-- ---- where no count rose
+
+-- no failure is told where none is counted: the swap file is not lost, so each has its call
+went-well : (request : Request) → append_charge request ≡ 0 → call_charge false request ≡ 0 → WentWell request
+went-well (Cmd command) appends calls = tt
+went-well Close appends calls = tt
+went-well Take appends calls = tt
+went-well (Deliver job findings) appends calls = tt
+went-well (GiveBack job) appends calls = tt
+went-well (Outcome call true) appends calls = refl
+went-well (Outcome Call.Append false) appends calls = absurd (cc appends)
+went-well (Outcome Call.Sync false) appends calls = absurd (cc calls)
+went-well (Outcome Call.Save false) appends calls = absurd (cc calls)
+
+still-kept : (request : Request) → WentWell request → lost_by false request ≡ false
+still-kept (Cmd command) well = refl
+still-kept Close well = refl
+still-kept Take well = refl
+still-kept (Deliver job findings) well = refl
+still-kept (GiveBack job) well = refl
+still-kept (Outcome Call.Append true) well = refl
+still-kept (Outcome Call.Sync true) well = refl
+still-kept (Outcome Call.Save true) well = refl
+still-kept (Outcome call false) well = absurd (true≢false (sym well))
+
+none-failed : (events : List Event) → failed_appends events ≡ 0 → failed_calls false events ≡ 0 → NoneFailed events
+none-failed [] appends calls = All-nil (λ (event : Event). WentWell event.request)
+none-failed (event ∷ events) appends calls =
+    let here : WentWell event.request = went-well event.request (omega (arith, appends)) (omega (arith, calls)) in
+    let rest : failed_calls (lost_by false event.request) events ≡ 0 = omega (arith, calls) in
+    All-cons (λ (e : Event). WentWell e.request) event events here
+    (none-failed events (omega (arith, appends)) (subst (λ (lost : Bool). failed_calls lost events ≡ 0) (still-kept event.request here) rest))
+
+no-append : (n before after : ℕ) → RoseBy n before after → DidNotRise before after → n ≡ 0
+no-append n before after (inl more) stays = let same = stays.0 in omega (arith, more, same)
+no-append n before after (inr last) stays = absurd (let short = stays.1 in omega (arith, last, short))
+
+no-call : (n : ℕ) (before after : DiskCall → ℕ) → (calls_of before + n ≤ calls_of after) ⊎ AtLast after → CallsStay before after → n ≡ 0
+no-call n before after (inl more) stays =
+    let sync = stays.sync.0 in let replace = stays.replace.0 in let reset = stays.reset.0 in
+    omega (arith, more, sync, replace, reset)
+no-call n before after (inr (inl last)) stays = absurd (let short = stays.sync.1 in omega (arith, last, short))
+no-call n before after (inr (inr (inl last))) stays = absurd (let short = stays.replace.1 in omega (arith, last, short))
+no-call n before after (inr (inr (inr last))) stays = absurd (let short = stays.reset.1 in omega (arith, last, short))
+
+-- the output of a run in which no such count rose is one of a history without a failure
+pub OutputsWell-from : (script file : List ℕ) (ending : Status) (before after : Outer) (output : List ℕ)
+    → Outputs script file ending before after output → CallsStay before.faults after.faults → OutputsWell script file output
+OutputsWell-from script file ending before after output is stays = record {
+  commands = is.commands;
+  spelled = is.spelled;
+  loaded = is.loaded;
+  loads = is.loads;
+  events = is.prints.events;
+  prints = is.prints.prints;
+  well = none-failed is.prints.events
+      (no-append (failed_appends is.prints.events) (before.faults Append) (after.faults Append) is.prints.counted.appends stays.append)
+      (no-call (failed_calls false is.prints.events) before.faults after.faults is.prints.counted.calls stays);
+}
+
+pub Outputs-same : (script file : List ℕ) (ending other_ending : Status) (before after other_before other_after : Outer) (a b : List ℕ)
+    → Outputs script file ending before after a → CallsStay before.faults after.faults
+    → Outputs script file other_ending other_before other_after b → CallsStay other_before.faults other_after.faults → a ≡ b
+Outputs-same script file ending other_ending before after other_before other_after a b one stays other others_stay =
+    OutputsWell-same script file a b (OutputsWell-from script file ending before after a one stays)
+    (OutputsWell-from script file other_ending other_before other_after b other others_stay)
+
+-- ---- a session
 
 -- what is printed of a session: its journal, and the report of its state
 pub Prints-session : (commands : List Command) (loaded : Loaded) (output : List ℕ) (first last : Session)
     → first ≡ record { loaded = loaded; limit = MAX_REVISIONS; events = [] }
-    → Schedule commands 0 (beginning first.loaded first.limit) last.events → NoneFailed last.events
+    → Schedule commands 0 (beginning first.loaded first.limit) last.events
     → last ≡ record first { events = last.events } → output ≡ journal_text last.events ++ report (present last)
-    → Prints commands loaded output
-Prints-session commands loaded output first last is schedule well begun printed =
+    → PrintsEvents commands loaded last.events output
+Prints-session commands loaded output first last is schedule begun printed =
     let at_last : last ≡ record { loaded = loaded; limit = MAX_REVISIONS; events = last.events } =
     begun ∙ ap (λ (session : Session). record session { events = last.events }) is in
     record {
-      events = last.events;
       schedule = subst (λ (session : Session). Schedule commands 0 (beginning session.loaded session.limit) last.events) is schedule;
-      went_well = well;
       printed = printed ∙ ap (λ (session : Session). journal_text last.events ++ report (present session)) at_last;
     }
+
+-- what the disk holds after it
+pub Keeps-session : (file : List ℕ) (loaded : Loaded) (swap : SwapView) (old moments : Option (List Moment)) (first : Session) (events : List Event)
+    → first ≡ record { loaded = loaded; limit = MAX_REVISIONS; events = [] }
+    → ((f : List ℕ) → Begins f first.loaded swap old → Keeps f (beginning first.loaded first.limit) events moments)
+    → Begins file loaded swap old → Keeps file (start_of loaded) events moments
+Keeps-session file loaded swap old moments first events is keeps begins =
+    subst (λ (s : Session). Begins file s.loaded swap old → Keeps file (beginning s.loaded s.limit) events moments) is (keeps file) begins
+
+-- ---- the counts from an earlier moment on
+
+Counted-from : (appends calls : ℕ) (first before after : DiskCall → ℕ) → AllStay first before → Counted appends calls before after → Counted appends calls first after
+Counted-from appends calls first before after stays counted =
+    let sync = stays Sync in let replace = stays Replace in let reset = stays Reset in let append = stays Append in
+    record {
+      appends = subst (λ n. RoseBy appends n (after Append)) append counted.appends;
+      calls = more counted.calls;
+      appends_told = λ rose. counted.appends_told (omega (arith, append, rose));
+      calls_told = λ rose. counted.calls_told (omega (arith, sync, replace, reset, rose));
+      reads = record {
+        saved_len = counted.reads.saved_len ∙ stays SavedLen;
+        saved_at = counted.reads.saved_at ∙ stays SavedAt;
+        swap_len = counted.reads.swap_len ∙ stays SwapLen;
+        swap_at = counted.reads.swap_at ∙ stays SwapAt;
+      };
+    } where
+      more : (calls_of before + calls ≤ calls_of after) ⊎ AtLast after → (calls_of first + calls ≤ calls_of after) ⊎ AtLast after
+      more (inl rose) = let sync = stays Sync in let replace = stays Replace in let reset = stays Reset in inl (omega (arith, sync, replace, reset, rose))
+      more (inr last) = inr last
+
+IsEnding-from : (ending : Status) (events : List Event) (first before after : DiskCall → ℕ) → AllStay first before → IsEnding ending events before after → IsEnding ending events first after
+IsEnding-from status.Ok events first before after stays ends = (ends.0, ends.1 ∙ stays Replace)
+IsEnding-from status.NoMemory events first before after stays ends = absurd ends
+IsEnding-from (status.BadWords at) events first before after stays ends = absurd ends
+IsEnding-from status.ReadFault events first before after stays ends = absurd ends
+IsEnding-from (status.BadScript fault) events first before after stays ends = absurd ends
+IsEnding-from status.DiskFault events first before after stays ends = (subst (λ n. Rose n (after Replace)) (stays Replace) ends.0, ends.1)
+IsEnding-from (status.NotUtf8 at) events first before after stays ends = absurd ends
+IsEnding-from (status.TooLarge size) events first before after stays ends = absurd ends
+IsEnding-from (status.SwapPresent bytes) events first before after stays ends = absurd ends
+IsEnding-from status.SwapLost events first before after stays ends = (ends.0, ends.1 ∙ stays Replace)
+IsEnding-from status.WriteFault events first before after stays ends = absurd ends
+IsEnding-from status.NoSwap events first before after stays ends = absurd ends
+IsEnding-from status.Version events first before after stays ends = absurd ends
+IsEnding-from (status.FileChanged kept found) events first before after stays ends = absurd ends
+IsEnding-from (status.Damaged at done) events first before after stays ends = absurd ends
+
+-- what is printed after a disk that had counted no more faults than another
+pub Prints-from : (commands : List Command) (file : List ℕ) (loaded : Loaded) (ending : Status) (first before after : Outer) (output : List ℕ)
+    → AllStay first.faults before.faults → Prints commands file loaded ending before after output → Prints commands file loaded ending first after output
+Prints-from commands file loaded ending first before after output stays is = record {
+  events = is.events;
+  prints = is.prints;
+  counted = Counted-from (failed_appends is.events) (failed_calls false is.events) first.faults before.faults after.faults stays is.counted;
+  ends = IsEnding-from ending is.events first.faults before.faults after.faults stays is.ends;
+  keeps = is.keeps;
+}

@@ -36,7 +36,7 @@ abbrev mark : Command
 mark = Edit (Change.Insert (record { line = 0; column = 2 }) (codes "!" ∷ []))
 
 -- each level that is left open is closed; an end where none is open does not count
-open_levels : asked_for (Begin ∷ End ∷ End ∷ Begin ∷ Begin ∷ []) ≡ Cmd Begin ∷ Cmd End ∷ Cmd End ∷ Cmd Begin ∷ Cmd Begin ∷ Cmd End ∷ Cmd End ∷ Close ∷ []
+pub open_levels : asked_for (Begin ∷ End ∷ End ∷ Begin ∷ Begin ∷ []) ≡ Cmd Begin ∷ Cmd End ∷ Cmd End ∷ Cmd Begin ∷ Cmd Begin ∷ Cmd End ∷ Cmd End ∷ Close ∷ []
 open_levels = refl
 
 -- the empty script

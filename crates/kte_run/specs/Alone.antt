@@ -1,17 +1,17 @@
 -- A run of the editor alone: what it adds to a session, and what it must have for that. This
 -- project's own rules.
-use Rattle.std.specs.Prelude.{◌≡◌, ℕ, ◌+◌, ◌-◌, ◌*◌, ◌<◌, ◌≤◌, ◌^◌, Bool, true, List, [], ◌∷◌, ◌++◌, length, All}
+use Rattle.std.specs.Prelude.{◌≡◌, ℕ, ◌+◌, ◌-◌, ◌*◌, ◌<◌, ◌≤◌, ◌^◌, Bool, true, false, List, [], ◌∷◌, ◌++◌, length, All}
 use Rattle.kte_place.specs.Ends.{Ends}
 use Rattle.kte_command.specs.declared.command.Command.{Command}
 use Rattle.kte_find.specs.declared.found.TheConstants.{MAX_FINDINGS}
 use Rattle.kte_jobs.specs.declared.job.JobState.TheVariants.{Done}
 use Rattle.kte_core.specs.State.{State}
 use Rattle.kte_core.specs.JobsInWords.{IsFree, count_waiting}
-use Rattle.kte_core.specs.Replay.{Session, Legal, IsLegal, present}
+use Rattle.kte_core.specs.Replay.{Session, Legal, IsLegal, after_event, present}
 use Rattle.kte_core.specs.declared.event.Event.{Event}
 use Rattle.kte_core.specs.declared.reply.Reply.{Reply}
 use Rattle.kte_core.specs.declared.request.Request.TheVariants.{Deliver}
-use Rattle.kte_run.specs.Schedule.{NoneFailed, AllFit, InTurn, asked_for, asked_in, nothing}
+use Rattle.kte_run.specs.Schedule.{Due, IsDue, NoneFailed, AllFit, InTurn, asked_for, asked_in, due_after, lost_by, nothing}
 use Rattle.kte_run.specs.Editor.{own}
 
 -- nobody works on a job
@@ -19,7 +19,8 @@ abbrev pub NoneTaken : State → Type 0
 NoneTaken state = (seat : ℕ) → IsFree state seat
 
 -- Events that the editor alone may add to a state, whether the swap file is lost or not: each of
--- its requests is called for, and in the end nothing is left to be told or delivered
+-- its requests is called for, in the end nothing is left to be told or delivered, and no call
+-- outside is told to have failed
 pub record Alone (state : State) (events : List Event) : Type 0 where
   pub legal : Legal state events
   pub fit : AllFit 0 state events
@@ -53,11 +54,29 @@ pub record Drains (before after : Session) : Type 0 where
   pub serves : Serves before after
   pub done : All (λ job. job.state ≡ Done) (present after).jobs
 
--- the requests of a script with these commands were made, in order, and the jobs can be done
+-- what the editor's last event calls for, after some events more
+abbrev pub due_left : State → Due → List Event → Due
+due_left state due [] = due
+due_left state due (event ∷ events) =
+    due_left (after_event state event) (due_after state due event) events
+
+-- each request of the editor is what its last event calls for; in the end something may be left
+abbrev pub EachDue : State → Bool → Due → List Event → Type 0
+EachDue state lost due [] = Unit {0}
+EachDue state lost due (event ∷ events) =
+    (event.seat ≡ 0 → IsDue due lost event.request)
+    × EachDue (after_event state event) (lost_by lost event.request)
+    (due_after state due event) events
+
+-- the requests of a script with these commands were made, in order, each outcome was told, and the
+-- jobs can be done
 pub record Asks (commands : List Command) (before after : Session) : Type 0 where
   pub added : List Event
   pub events : after ≡ record before { events = before.events ++ added }
-  pub alone : Alone (present before) added
+  pub legal : Legal (present before) added
+  pub fit : AllFit 0 (present before) added
+  pub each_due : EachDue (present before) false nothing added
+  pub settled : due_left (present before) nothing added ≡ nothing
   pub ordered : asked_in added ≡ asked_for commands
   pub can : CanDrain (present after)
   pub idle : IsIdle (present after)

@@ -1,12 +1,12 @@
--- What a run prints, and what its statuses say. This project's own rules.
-use Rattle.std.specs.Prelude.{◌≡◌, ◌≢◌, ◌⊎◌, ◌<◌, ℕ, List, [], ◌∷◌, ◌++◌, Option, Ok, Err, IsOk, IfSome, IsSomeAnd, Contains}
+-- What an edit prints, and what its statuses say. This project's own rules.
+use Rattle.std.specs.Prelude.{true, false, ◌≡◌, ◌≢◌, ◌⊎◌, ◌<◌, ℕ, List, [], ◌∷◌, ◌++◌, length, Option, Some, Ok, Err, IsOk, IfSome, IsSomeAnd, Contains}
 use Rattle.std.specs.Io.KnownBytes.{Appends, IsAtEnd}
-use Rattle.kte_causes.specs.Faults.{Rose}
+use Rattle.kte_causes.specs.Faults.{Rose, last_count}
 use Rattle.kte_causes.specs.Contents.{AppendsPrefix}
 use Rattle.kte_causes.specs.DiskFaults.{AllStay}
-use Rattle.kte_causes.specs.Moments.{Moment, AddsMoments, Staying, saved_now}
+use Rattle.kte_causes.specs.Moments.{Moment, AddsMoments, Staying, saved_now, swap_now}
 use Rattle.kte_causes.specs.declared.causes.DiskCall.{DiskCall}
-use Rattle.kte_causes.specs.declared.causes.DiskCall.TheVariants.{SavedLen, SavedAt}
+use Rattle.kte_causes.specs.declared.causes.DiskCall.TheVariants.{SavedLen, SavedAt, SwapLen, Append, Sync, Replace, Reset}
 use Rattle.kte_text.specs.Files.{Loads, Refuses}
 use Rattle.kte_text.specs.declared.loading.Loaded.{Loaded}
 use Rattle.kte_text.specs.declared.loading.LoadFault.{LoadFault}
@@ -23,20 +23,37 @@ use Rattle.kte_report.specs.Report.{report}
 use Rattle.kte_run.specs.declared.TheConstants.{MAX_REVISIONS}
 use Rattle.kte_run.specs.declared.status.Status.{Status}
 use Rattle.kte_run.specs.declared.status.Status.TheVariants as status
-use Rattle.kte_run.specs.Statuses.{file_status}
-use Rattle.kte_run.specs.Schedule.{Schedule, NoneFailed}
+use Rattle.kte_run.specs.Statuses.{file_status, is_of_edit}
+use Rattle.kte_run.specs.Schedule.{NoneFailed, Schedule}
+use Rattle.kte_run.specs.Outcomes.{Counted, IsEnding, Keeps, ReadsStay, failed_appends, failed_calls}
 
 -- the state at first
 abbrev pub start_of : Loaded → State
 start_of loaded = beginning loaded MAX_REVISIONS
 
--- What is printed for some commands after loading: there is a history of the run, with no workers
--- beside the editor, and the output is its journal and the report of the state after it
-pub record Prints (commands : List Command) (loaded : Loaded) (output : List ℕ) : Type 0 where
-  pub events : List Event
+-- what the disk has counted and holds
+pub record Outer : Type 0 where
+  pub faults : DiskCall → ℕ
+  pub moments : Option (List Moment)
+
+-- What is printed for some commands after loading a file, by these events: they are the history of
+-- a run with no workers beside the editor, and the output is their journal and the report of the
+-- state after them
+pub record PrintsEvents (commands : List Command) (loaded : Loaded) (events : List Event) (output : List ℕ)
+    : Type 0 where
   pub schedule : Schedule commands 0 (start_of loaded) events
-  pub went_well : NoneFailed events
   pub printed : output ≡ journal_text events ++ report (replay (start_of loaded) events)
+
+-- There is such a history, and it tells what came of each call of the disk: as many have failed as
+-- the counts rose by, at the most; the run ends so; and while the swap is not lost, the disk has
+-- all that was typed
+pub record Prints (commands : List Command) (file : List ℕ) (loaded : Loaded) (ending : Status)
+    (before after : Outer) (output : List ℕ) : Type 0 where
+  pub events : List Event
+  pub prints : PrintsEvents commands loaded events output
+  pub counted : Counted (failed_appends events) (failed_calls false events) before.faults after.faults
+  pub ends : IsEnding ending events before.faults after.faults
+  pub keeps : Keeps file (start_of loaded) events after.moments
 
 -- a file that is not refused
 abbrev pub IsLoadable : List ℕ → Type 0
@@ -44,24 +61,49 @@ IsLoadable file = (fault : LoadFault) → ¬ (Refuses file fault)
 
 -- What is printed for a script and a file: the script spells commands, the file is loaded, and the
 -- output is printed for them
-pub record Outputs (script file output : List ℕ) : Type 0 where
+pub record Outputs (script file : List ℕ) (ending : Status) (before after : Outer) (output : List ℕ)
+    : Type 0 where
   pub commands : List Command
   pub spelled : script_of script ≡ Ok commands
   pub loaded : Loaded
   pub loads : Loads file loaded
-  pub prints : Prints commands loaded output
+  pub prints : Prints commands file loaded ending before after output
 
--- what was written is the output for this script and this file
-pub record Writes (script file : List ℕ) (before after : Option (List ℕ)) : Type 0 where
-  pub output : List ℕ
-  pub outputs : Outputs script file output
-  pub gains : Appends before after output
+-- .. by a history in which no call outside failed
+pub record OutputsWell (script file output : List ℕ) : Type 0 where
+  pub commands : List Command
+  pub spelled : script_of script ≡ Ok commands
+  pub loaded : Loaded
+  pub loads : Loads file loaded
+  pub events : List Event
+  pub prints : PrintsEvents commands loaded events output
+  pub well : NoneFailed events
 
--- what was written is the first bytes of that output
-pub record WritesPrefix (script file : List ℕ) (before after : Option (List ℕ)) : Type 0 where
+-- a count did not rise, and has not reached its last value, from which none rises
+abbrev pub DidNotRise : ℕ → ℕ → Type 0
+DidNotRise before after = (after ≡ before) × (after < last_count)
+
+-- no append, sync, replacement or reset failed
+pub record CallsStay (before after : DiskCall → ℕ) : Type 0 where
+  pub append : DidNotRise (before Append) (after Append)
+  pub sync : DidNotRise (before Sync) (after Sync)
+  pub replace : DidNotRise (before Replace) (after Replace)
+  pub reset : DidNotRise (before Reset) (after Reset)
+
+-- what was written is the output for this script and this file, and the run ended so
+pub record Writes (script file : List ℕ) (ending : Status) (before after : Outer)
+    (got now : Option (List ℕ)) : Type 0 where
   pub output : List ℕ
-  pub outputs : Outputs script file output
-  pub gains : AppendsPrefix before after output
+  pub outputs : Outputs script file ending before after output
+  pub gains : Appends got now output
+
+-- what was written is the first bytes of that output, however the run ended
+pub record WritesPrefix (script file : List ℕ) (before after : Outer) (got now : Option (List ℕ))
+    : Type 0 where
+  pub output : List ℕ
+  pub ending : Status
+  pub outputs : Outputs script file ending before after output
+  pub gains : AppendsPrefix got now output
 
 -- the script was read to its end without a fault, and spells commands
 pub record ReadsScript (before after : Option (List ℕ)) (faults later_faults : ℕ) : Type 0 where
@@ -69,45 +111,82 @@ pub record ReadsScript (before after : Option (List ℕ)) (faults later_faults :
   pub calm : later_faults ≡ faults
   pub spells : IfSome before (λ bytes. IsOk (script_of bytes))
 
--- the file was read without a fault, and is not refused
-pub record LoadsFile (file : Option (List ℕ)) (faults later_faults : DiskCall → ℕ) : Type 0 where
-  pub calm : AllStay faults later_faults
-  pub loads : IfSome file IsLoadable
-
--- the disk has counted a fault of a length or of a read
-abbrev pub DiskRose : (DiskCall → ℕ) → (DiskCall → ℕ) → Type 0
-DiskRose before after = Rose (before SavedLen) (after SavedLen)
-    ⊎ Rose (before SavedAt) (after SavedAt)
-
 -- What a script, a disk and a sink tell, and how many faults they have counted
 pub record Outside : Type 0 where
   -- the bytes that the script has left
   pub left : Option (List ℕ)
   pub script_faults : ℕ
-  pub moments : Option (List Moment)
-  pub disk_faults : DiskCall → ℕ
+  pub disk : Outer
   -- the bytes that the sink has got
   pub got : Option (List ℕ)
   pub sink_faults : ℕ
+
+-- .. each given by itself
+abbrev pub outside : Option (List ℕ) → ℕ → Option (List Moment) → (DiskCall → ℕ) → Option (List ℕ) → ℕ → Outside
+outside left script_faults moments disk_faults got sink_faults = record {
+  left = left;
+  script_faults = script_faults;
+  disk = record { faults = disk_faults; moments = moments };
+  got = got;
+  sink_faults = sink_faults;
+}
 
 -- the script was read to its end, and spells commands
 abbrev pub WasRead : Outside → Outside → Type 0
 WasRead before after =
     ReadsScript before.left after.left before.script_faults after.script_faults
 
--- the file was loaded
-abbrev pub WasLoaded : Outside → Outside → Type 0
-WasLoaded before after =
-    LoadsFile (saved_now before.moments) before.disk_faults after.disk_faults
+-- the files on the disk are as before at each moment
+abbrev pub FilesStay : Outer → Outer → Type 0
+FilesStay before after = AddsMoments Staying before.moments after.moments
+
+-- the swap file was empty, and the saved file was read without a fault, and is not refused
+pub record WasLoaded (before after : Outer) : Type 0 where
+  pub reads : ReadsStay before.faults after.faults
+  pub empty : IfSome (swap_now before.moments) (λ swap. swap ≡ [])
+  pub loads : IfSome (saved_now before.moments) IsLoadable
+
+-- the disk has counted a fault of a length or of a read of the saved file
+abbrev pub LoadRose : (DiskCall → ℕ) → (DiskCall → ℕ) → Type 0
+LoadRose before after = Rose (before SavedLen) (after SavedLen)
+    ⊎ Rose (before SavedAt) (after SavedAt)
+
+-- .. or of the length of the swap file
+abbrev pub DiskRose : (DiskCall → ℕ) → (DiskCall → ℕ) → Type 0
+DiskRose before after = Rose (before SwapLen) (after SwapLen) ⊎ LoadRose before after
+
+-- what was written is the whole output, where script and file are told, and the run ended so
+abbrev pub WasWritten : Outside → Outside → Status → Type 0
+WasWritten before after ending =
+    WasRead before after × WasLoaded before.disk after.disk
+    × (after.sink_faults ≡ before.sink_faults)
+    × IfSome before.left (λ script. IfSome (saved_now before.disk.moments) (λ file.
+    Writes script file ending before.disk after.disk before.got after.got))
+
+-- the disk failed before anything was written, and its files are as before
+pub record FailedBefore (before after : Outside) (sink_stays : Type 0) : Type 0 where
+  pub rose : DiskRose before.disk.faults after.disk.faults
+  pub files : FilesStay before.disk after.disk
+  pub sink : sink_stays
 
 -- What an edit does, of which the clauses of `edit_alone` say the same one by one. That the disk
 -- and the sink stay says that nothing was asked of them
 pub record IsEdit (before after : Outside) (disk_stays sink_stays : Type 0) (given : Status)
     : Type 0 where
-  pub ok : given ≡ status.Ok → IfSome before.left (λ script. IfSome (saved_now before.moments) (λ file.
-      Writes script file before.got after.got))
-  pub ok_before : given ≡ status.Ok
-      → WasRead before after × WasLoaded before after × (after.sink_faults ≡ before.sink_faults)
+  -- the whole output was written
+  pub ok : given ≡ status.Ok → WasWritten before after given
+  pub swap_lost : given ≡ status.SwapLost → WasWritten before after given
+  pub swap_lost_rose : given ≡ status.SwapLost
+      → Rose (before.disk.faults Append) (after.disk.faults Append)
+      ⊎ Rose (before.disk.faults Sync) (after.disk.faults Sync)
+      ⊎ Rose (before.disk.faults Reset) (after.disk.faults Reset)
+  pub disk_fault : given ≡ status.DiskFault → WasRead before after
+      × (FailedBefore before after sink_stays ⊎ WasWritten before after given)
+  pub disk_fault_comes : (call : DiskCall) → Contains (SwapLen ∷ SavedLen ∷ SavedAt ∷ []) call
+      → before.disk.faults call < after.disk.faults call → given ≡ status.DiskFault
+  pub replace_fault_comes : before.disk.faults Replace < after.disk.faults Replace
+      → Contains (status.DiskFault ∷ status.WriteFault ∷ status.NoMemory ∷ []) given
+  -- the script
   pub read_fault : given ≡ status.ReadFault
       → Rose before.script_faults after.script_faults × disk_stays × sink_stays
   pub read_fault_comes : before.script_faults < after.script_faults → given ≡ status.ReadFault
@@ -118,25 +197,42 @@ pub record IsEdit (before after : Outside) (disk_stays sink_stays : Type 0) (giv
       → IsSomeAnd before.left (λ bytes. script_of bytes ≡ Err fault)
       → Contains (status.BadScript fault ∷ status.ReadFault ∷ status.NoMemory ∷ []) given
   pub bad_script_named : given ≢ status.BadScript script_fault.NoMemory
-  pub disk_fault : given ≡ status.DiskFault
-      → WasRead before after × DiskRose before.disk_faults after.disk_faults × sink_stays
-  pub disk_fault_comes : (call : DiskCall) → before.disk_faults call < after.disk_faults call
-      → given ≡ status.DiskFault
+  -- the swap file
+  pub swap_present : (bytes : ℕ) → given ≡ status.SwapPresent bytes
+      → WasRead before after × AllStay before.disk.faults after.disk.faults
+      × IfSome (swap_now before.disk.moments) (λ swap. (bytes ≡ length swap) × (swap ≢ []))
+      × FilesStay before.disk after.disk × sink_stays
+  pub swap_present_comes : (swap : List ℕ)
+      → IsSomeAnd before.left (λ bytes. IsOk (script_of bytes))
+      → swap_now before.disk.moments ≡ Some swap → swap ≢ []
+      → Contains (status.SwapPresent (length swap) ∷ status.DiskFault ∷ status.ReadFault ∷ status.NoMemory ∷ [])
+      given
+  -- the saved file
   pub refused : (fault : LoadFault) → fault ≢ load_fault.NoMemory → given ≡ file_status fault
-      → WasRead before after × AllStay before.disk_faults after.disk_faults
-      × IfSome (saved_now before.moments) (λ file. Refuses file fault) × sink_stays
+      → WasRead before after × AllStay before.disk.faults after.disk.faults
+      × IfSome (swap_now before.disk.moments) (λ swap. swap ≡ [])
+      × IfSome (saved_now before.disk.moments) (λ file. Refuses file fault)
+      × FilesStay before.disk after.disk × sink_stays
   pub refused_comes : (fault : LoadFault)
       → IsSomeAnd before.left (λ bytes. IsOk (script_of bytes))
-      → IsSomeAnd (saved_now before.moments) (λ file. Refuses file fault)
+      → IsSomeAnd (swap_now before.disk.moments) (λ swap. swap ≡ [])
+      → IsSomeAnd (saved_now before.disk.moments) (λ file. Refuses file fault)
       → Contains (file_status fault ∷ status.DiskFault ∷ status.ReadFault ∷ status.NoMemory ∷ []) given
-  pub files : AddsMoments Staying before.moments after.moments
+  -- the output
   pub write_fault : given ≡ status.WriteFault
-      → WasRead before after × WasLoaded before after × Rose before.sink_faults after.sink_faults
+      → WasRead before after × WasLoaded before.disk after.disk
+      × Rose before.sink_faults after.sink_faults
   pub write_fault_comes : before.sink_faults < after.sink_faults → given ≡ status.WriteFault
   pub prefix : (given ≡ status.WriteFault) ⊎ (given ≡ status.NoMemory)
-      → IfSome before.left (λ script. IfSome (saved_now before.moments) (λ file.
-      (after.got ≡ before.got) ⊎ WritesPrefix script file before.got after.got))
+      → IfSome before.left (λ script. IfSome (saved_now before.disk.moments) (λ file.
+      (after.got ≡ before.got)
+      ⊎ WritesPrefix script file before.disk after.disk before.got after.got))
+  -- with a script and a file of their forms and no swap file, only a fault or a lack of memory
+  -- prevents status 0
   pub complete : IsSomeAnd before.left (λ bytes. IsOk (script_of bytes))
-      → IsSomeAnd (saved_now before.moments) IsLoadable
-      → Contains (status.Ok ∷ status.ReadFault ∷ status.DiskFault ∷ status.WriteFault ∷ status.NoMemory ∷ [])
+      → IsSomeAnd (swap_now before.disk.moments) (λ swap. swap ≡ [])
+      → IsSomeAnd (saved_now before.disk.moments) IsLoadable
+      → Contains (status.Ok ∷ status.ReadFault ∷ status.DiskFault ∷ status.SwapLost ∷ status.WriteFault ∷ status.NoMemory ∷ [])
       given
+  -- no other status comes
+  pub only : is_of_edit given ≡ true

@@ -2,6 +2,7 @@
 -- rules.
 use Rattle.std.specs.Prelude.{ℕ, Bool, true, false, List, [], ◌++◌, codes, Option, None, Some}
 use Rattle.std.specs.Fmt.{decimal}
+use Rattle.hex.specs.Hex.{encode_lower}
 use Rattle.kte_causes.specs.declared.causes.DiskFail.{DiskFail}
 use Rattle.kte_causes.specs.declared.causes.DiskFail.TheVariants as disk
 use Rattle.kte_causes.specs.declared.causes.ReadFault.{ReadFault}
@@ -25,7 +26,13 @@ code_of (status.BadScript fault) = 4
 code_of status.DiskFault = 5
 code_of (status.NotUtf8 at) = 6
 code_of (status.TooLarge size) = 7
+code_of (status.SwapPresent bytes) = 8
+code_of status.SwapLost = 9
 code_of status.WriteFault = 10
+code_of status.NoSwap = 11
+code_of status.Version = 12
+code_of (status.FileChanged kept found) = 13
+code_of (status.Damaged at done) = 14
 
 -- a text that is too large, or a file that is too long for its text to be told
 abbrev pub too_large_line : Option ℕ → List ℕ
@@ -49,7 +56,16 @@ error_line (status.BadScript fault) = script_line fault
 error_line status.DiskFault = codes "kted: the disk failed"
 error_line (status.NotUtf8 at) = codes "kted: file is not UTF-8 at byte " ++ decimal at
 error_line (status.TooLarge size) = too_large_line size
+error_line (status.SwapPresent bytes) = codes "kted: swap file present: " ++ decimal bytes ++ codes " bytes"
+error_line status.SwapLost = codes "kted: swap file lost"
 error_line status.WriteFault = codes "kted: writing failed"
+error_line status.NoSwap = codes "kted: no swap file"
+error_line status.Version = codes "kted: unknown swap version"
+error_line (status.FileChanged kept found) =
+    codes "kted: file changed: swap " ++ encode_lower kept.0 ++ codes " file " ++ encode_lower found.0
+error_line (status.Damaged at done) =
+    codes "kted: swap damaged at byte " ++ decimal at ++ codes " after " ++ decimal done
+    ++ codes " transactions"
 
 -- the status of a script that is at fault
 abbrev pub bad_script_status : ScriptFault → Status
@@ -83,24 +99,78 @@ sink_status sink.NoMemory = status.NoMemory
 
 -- the statuses with which reading the script may end a run
 abbrev pub is_of_script : Status → Bool
-is_of_script status.Ok = false
 is_of_script status.NoMemory = true
-is_of_script (status.BadWords at) = false
 is_of_script status.ReadFault = true
 is_of_script (status.BadScript fault) = true
-is_of_script status.DiskFault = false
-is_of_script (status.NotUtf8 at) = false
-is_of_script (status.TooLarge size) = false
-is_of_script status.WriteFault = false
+is_of_script _ = false
 
 -- the statuses with which loading the file may end a run
 abbrev pub is_of_file : Status → Bool
-is_of_file status.Ok = false
 is_of_file status.NoMemory = true
-is_of_file (status.BadWords at) = false
-is_of_file status.ReadFault = false
-is_of_file (status.BadScript fault) = false
 is_of_file status.DiskFault = true
 is_of_file (status.NotUtf8 at) = true
 is_of_file (status.TooLarge size) = true
-is_of_file status.WriteFault = false
+is_of_file _ = false
+
+-- .. and looking for a swap file
+abbrev pub is_of_swap : Status → Bool
+is_of_swap status.NoMemory = true
+is_of_swap status.DiskFault = true
+is_of_swap (status.SwapPresent bytes) = true
+is_of_swap _ = false
+
+-- the statuses with which an edit may end
+abbrev pub is_of_edit : Status → Bool
+is_of_edit status.Ok = true
+is_of_edit status.NoMemory = true
+is_of_edit status.ReadFault = true
+is_of_edit (status.BadScript fault) = true
+is_of_edit status.DiskFault = true
+is_of_edit (status.NotUtf8 at) = true
+is_of_edit (status.TooLarge size) = true
+is_of_edit (status.SwapPresent bytes) = true
+is_of_edit status.SwapLost = true
+is_of_edit status.WriteFault = true
+is_of_edit _ = false
+
+-- the statuses with which a recovery may end
+abbrev pub is_of_recovery : Status → Bool
+is_of_recovery status.Ok = true
+is_of_recovery status.NoMemory = true
+is_of_recovery status.DiskFault = true
+is_of_recovery (status.NotUtf8 at) = true
+is_of_recovery (status.TooLarge size) = true
+is_of_recovery status.WriteFault = true
+is_of_recovery status.NoSwap = true
+is_of_recovery status.Version = true
+is_of_recovery (status.FileChanged kept found) = true
+is_of_recovery (status.Damaged at done) = true
+is_of_recovery _ = false
+
+-- .. where the length of the swap file is 0 or is not told
+abbrev pub is_of_length : Status → Bool
+is_of_length status.NoMemory = true
+is_of_length status.DiskFault = true
+is_of_length status.NoSwap = true
+is_of_length _ = false
+
+-- .. before anything is written
+abbrev pub is_unwritten : Status → Bool
+is_unwritten status.NoMemory = true
+is_unwritten status.DiskFault = true
+is_unwritten (status.NotUtf8 at) = true
+is_unwritten (status.TooLarge size) = true
+is_unwritten status.NoSwap = true
+is_unwritten status.Version = true
+is_unwritten (status.FileChanged kept found) = true
+is_unwritten _ = false
+
+-- .. once both files were read
+abbrev pub is_unread : Status → Bool
+is_unread status.NoMemory = true
+is_unread status.NoSwap = true
+is_unread (status.NotUtf8 at) = true
+is_unread (status.TooLarge size) = true
+is_unread status.Version = true
+is_unread (status.FileChanged kept found) = true
+is_unread _ = false

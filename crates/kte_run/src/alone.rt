@@ -1,69 +1,131 @@
-ghost use Rattle.std.specs.Prelude.{◌≡◌, ◌+◌, ◌*◌, ◌^◌, ◌<◌, ◌≤◌, [], ◌++◌, length, All, None, Some, IsOk, IfOk, OnOk, OnErr};
+ghost use Rattle.std.specs.Prelude.{◌≡◌, ℕ, List, ◌+◌, ◌*◌, ◌^◌, ◌<◌, ◌≤◌, true, false, [], ◌++◌, length, All, None, Some, IsOk, IfOk, IfSome, IsSome, OnOk, OnErr};
+ghost use Rattle.kte_text.specs.Texts.{IsText};
+ghost use Rattle.kte_text.specs.Primitives.{FitInTurn, HasLine};
 ghost use Rattle.kte_place.specs.Ends.{SpanIsInReach};
 ghost use Rattle.kte_find.specs.Findings.{AreFindings};
 ghost use Rattle.kte_find.specs.declared.rule.Rule.{Rule};
 ghost use Rattle.kte_find.specs.declared.found.TheConstants.{MAX_FINDINGS};
 ghost use Rattle.kte_jobs.specs.Jobs.{least_waiting, rule_of};
+ghost use Rattle.kte_swap.specs.declared.causes.SwapState.TheVariants.{Guarded};
 ghost use Rattle.kte_command.specs.Commands.{InRange};
-ghost use Rattle.kte_core.specs.Editing.{revision_of, text_of};
+ghost use Rattle.kte_core.specs.Editing.{revision_of, saved_form, text_of};
 ghost use Rattle.kte_core.specs.Jobs.{taken_at};
 ghost use Rattle.kte_core.specs.JobsInWords.{count_waiting};
 ghost use Rattle.kte_core.specs.Replay.{beginning, present};
+ghost use Rattle.kte_script.specs.declared.TheConstants.{MAX_COMMANDS};
 ghost use Rattle.kte_run.specs.Alone.{Asks, CanDrain, Delivers, Drains, HasRoom, IsIdle, NoneTaken, Serves};
-ghost use Rattle.kte_script.specs.Limits.{IsScripted};
-ghost use Rattle.kte_run.specs.Schedule.{NoneFailed, Schedule};
+ghost use Rattle.kte_run.specs.Outcomes.{Begins, Counted, Ended, IsEnding, Keeps, ReadsStay, failed_appends, failed_calls};
+ghost use Rattle.kte_run.specs.Schedule.{Schedule};
 
 use crate::editor::Editor;
+use crate::status::Status;
 use kte_causes::Disk;
 use kte_command::Command;
 use kte_core::{Core, Request};
 use kte_find::Checker;
 use kte_place::Spans;
-use kte_text::Lines;
+use kte_swap::Swap;
+use kte_text::{Batch, Lines};
 use std::alloc::{AllocError, Global};
 
 /// Carries out the commands of a script in a session without events, closes it, and does the jobs.
+/// The swap is that of an empty swap file. Returns how the run ends if its output is written.
 pub(crate) fn carry_out<D: Disk, K: Checker>(
     alloc: Global,
     core: &mut Core,
     commands: Vec<Command>,
+    swap: Swap,
     disk: &mut D,
     checker: &K,
-) -> Result<(), AllocError>
+) -> Result<Status, AllocError>
     requires fresh { core.old.events ≡ [] }
     requires in_range { All InRange commands.items }
-    requires of_core { All IsScripted commands.items }
-    requires few { length commands.items < 2 ^ 30 }
+    requires few { length commands.items ≤ MAX_COMMANDS }
+    requires guarded { swap.state ≡ Guarded }
     ensures schedule { OnOk result (Schedule commands.items 0
         (beginning core.old.loaded core.old.limit) core.new.events) }
-    ensures went_well { OnOk result (NoneFailed core.new.events) }
     ensures begun { OnOk result (core.new ≡ record core.old { events = core.new.events }) }
-    ensures disk { disk.new ≡ disk.old }
+    ensures counted { OnOk result (Counted (failed_appends core.new.events)
+        (failed_calls false core.new.events) (D.faults disk.old) (D.faults disk.new)) }
+    ensures ends { IfOk result (λ ending. IsEnding ending core.new.events (D.faults disk.old)
+        (D.faults disk.new)) }
+    ensures ended { IfOk result (λ ending. Ended ending (D.faults disk.old) (D.faults disk.new)) }
+    ensures keeps { (file : List ℕ) → Begins file core.old.loaded swap (D.moments disk.old)
+        → OnOk result (Keeps file (beginning core.old.loaded core.old.limit) core.new.events
+        (D.moments disk.new)) }
+    ensures reads { ReadsStay (D.faults disk.old) (D.faults disk.new) }
+    ensures told { IfSome (D.moments disk.old) (λ _. IsSome (D.moments disk.new)) }
 {
-    ask_all(alloc, core, commands, disk)?;
-    drain(alloc, core, checker)
+    let ending = ask_all(alloc, core, commands, swap, disk)?;
+    drain(alloc, core, checker)?;
+    Ok(ending)
 }
 
-/// Makes the requests of the editor, the close being the last.
+/// Makes the requests of the editor, and the calls of the disk that follow. The close is the last
+/// request. Returns how the run ends if its output is written.
 fn ask_all<D: Disk>(
     alloc: Global,
     core: &mut Core,
     commands: Vec<Command>,
+    swap: Swap,
     disk: &mut D,
-) -> Result<(), AllocError>
+) -> Result<Status, AllocError>
     requires fresh { core.old.events ≡ [] }
     requires in_range { All InRange commands.items }
-    requires of_core { All IsScripted commands.items }
-    requires few { length commands.items < 2 ^ 30 }
+    requires few { length commands.items ≤ MAX_COMMANDS }
+    requires guarded { swap.state ≡ Guarded }
     ensures ok { OnOk result (Asks commands.items core.old core.new) }
-    ensures disk { disk.new ≡ disk.old }
+    ensures counted { OnOk result (Counted (failed_appends core.new.events)
+        (failed_calls false core.new.events) (D.faults disk.old) (D.faults disk.new)) }
+    ensures ends { IfOk result (λ ending. IsEnding ending core.new.events (D.faults disk.old)
+        (D.faults disk.new)) }
+    ensures ended { IfOk result (λ ending. Ended ending (D.faults disk.old) (D.faults disk.new)) }
+    ensures keeps { (file : List ℕ) → Begins file core.old.loaded swap (D.moments disk.old)
+        → OnOk result (Keeps file (beginning core.old.loaded core.old.limit) core.new.events
+        (D.moments disk.new)) }
+    ensures reads { ReadsStay (D.faults disk.old) (D.faults disk.new) }
+    ensures told { IfSome (D.moments disk.old) (λ _. IsSome (D.moments disk.new)) }
 {
-    let mut editor = Editor::new(commands);
+    let mut editor = Editor::new(alloc, commands, swap);
+    made_fits(core);
     while let Some(request) = editor.next() {
         let step = core.step(alloc, 0, request)?;
-        editor.answered(&step, disk)?;
+        made_fits(core);
+        inserts_lines(&step.made);
+        let form = saved_form(alloc, core, editor.is_saving(&step.reply))?;
+        editor.answered(alloc, step, &form, disk)?;
     }
-    Ok(())
+    Ok(editor.ending())
+}
+
+/// Called for its contract alone: the primitives so far fit the loaded text, one after another, and
+/// lead to a text.
+fn made_fits(core: &Core)
+    ensures turn { FitInTurn (present core.now).editing.trail
+        (present core.now).editing.loaded.text }
+    ensures text { IsText (text_of (present core.now).editing) }
+{
+    let _lines = core.doc().lines();
+}
+
+/// Called for its contract alone: each insertion is one of a line.
+fn inserts_lines(made: &Batch)
+    ensures { All HasLine made.now }
+{
+    for n in 0..made.len() {
+        let _is_empty = made.get(n).is_empty();
+    }
+}
+
+/// Returns the bytes that a save writes, if one is to be made.
+fn saved_form(alloc: Global, core: &Core, is_saving: bool) -> Result<Vec<u8>, AllocError>
+    ensures { is_saving ≡ true
+        → IfOk result (λ bytes. bytes.items ≡ saved_form (present core.now).editing) }
+{
+    if is_saving {
+        return core.saved_form(alloc);
+    }
+    Ok(Vec::new(alloc))
 }
 
 /// Takes each job that waits, the least first, and delivers what its rule finds. If out of memory,

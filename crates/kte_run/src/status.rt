@@ -1,10 +1,10 @@
 ghost use Rattle.std.specs.Prelude.{◌≡◌, IfOk, string_bytes};
-ghost use Rattle.kte_run.specs.Statuses.{script_line, bad_script_status, script_status, disk_status, file_status, sink_status};
+ghost use Rattle.kte_run.specs.Statuses.{error_line, script_line, bad_script_status, script_status, disk_status, file_status, sink_status};
 ghost use Rattle.kte_run.specs.declared.status.Status.TheVariants as status;
 
 use kte_causes::{DiskFail, ReadFault, SinkFail};
 use kte_script::ScriptFault;
-use kte_text::LoadFault;
+use kte_text::{Digest, LoadFault};
 use std::alloc::{AllocError, Global};
 
 /// How a run ended.
@@ -27,12 +27,27 @@ pub enum Status {
     NotUtf8 { at: u64 },
     /// The saved file is too long, or its text has `size` units and line ends, which is too large.
     TooLarge { size: Option<u64> },
+    /// There is a swap file already, of `bytes` bytes.
+    SwapPresent { bytes: u64 },
+    /// The output was written, but the swap file does not hold all that was typed: a call of the
+    /// disk failed, and no save went well after it.
+    SwapLost,
     /// Writing the output failed.
     WriteFault,
+    /// There is no swap file, or it is empty.
+    NoSwap,
+    /// The swap file has another version, or is none.
+    Version,
+    /// The swap file is that of a saved file with the digest `kept`; the saved file has the digest
+    /// `found`.
+    FileChanged { kept: Digest, found: Digest },
+    /// At the offset `at` in the swap file, in bytes, comes a record at fault, after `done` whole
+    /// transactions.
+    Damaged { at: u64, done: u64 },
 }
 
 impl Status {
-    ghost use Rattle.kte_run.specs.Statuses.{code_of, error_line};
+    ghost use Rattle.kte_run.specs.Statuses.{code_of};
 
     /// Returns the code that the program ends with.
     pub fn code(&self) -> u8
@@ -47,7 +62,13 @@ impl Status {
             Status::DiskFault => 5,
             Status::NotUtf8 { .. } => 6,
             Status::TooLarge { .. } => 7,
+            Status::SwapPresent { .. } => 8,
+            Status::SwapLost => 9,
             Status::WriteFault => 10,
+            Status::NoSwap => 11,
+            Status::Version => 12,
+            Status::FileChanged { .. } => 13,
+            Status::Damaged { .. } => 14,
         }
     }
 
@@ -68,7 +89,17 @@ impl Status {
             Status::TooLarge { size: Some(size) } => {
                 format!(in alloc; "kted: text too large: {size}")
             }
+            Status::SwapPresent { bytes } => {
+                format!(in alloc; "kted: swap file present: {bytes} bytes")
+            }
+            Status::SwapLost => String::from_str(alloc, "kted: swap file lost"),
             Status::WriteFault => String::from_str(alloc, "kted: writing failed"),
+            Status::NoSwap => String::from_str(alloc, "kted: no swap file"),
+            Status::Version => String::from_str(alloc, "kted: unknown swap version"),
+            Status::FileChanged { kept, found } => changed_line(alloc, kept, found),
+            Status::Damaged { at, done } => {
+                format!(in alloc; "kted: swap damaged at byte {at} after {done} transactions")
+            }
         }
     }
 }
@@ -87,6 +118,16 @@ fn script_line(alloc: Global, fault: &ScriptFault) -> Result<String, AllocError>
         ScriptFault::TooLong => String::from_str(alloc, "kted: script too long"),
         ScriptFault::NoMemory => String::from_str(alloc, "kted: out of memory"),
     }
+}
+
+/// Returns the line of a swap file of another saved file.
+fn changed_line(alloc: Global, kept: &Digest, found: &Digest) -> Result<String, AllocError>
+    ensures { IfOk result (λ text. string_bytes text
+        ≡ error_line (Status.FileChanged kept.now found.now)) }
+{
+    let kept = kept.hex(alloc)?;
+    let found = found.hex(alloc)?;
+    format!(in alloc; "kted: file changed: swap {kept} file {found}")
 }
 
 impl From<AllocError> for Status {

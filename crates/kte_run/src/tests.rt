@@ -8,10 +8,12 @@ use kte_causes::{
 };
 use kte_find::PlainChecker;
 use kte_script::ScriptFault;
-use kte_text::MAX_FILE_LENGTH;
+use kte_text::{Digest, MAX_FILE_LENGTH};
 use kte_words::Word;
 use std::alloc::{AllocError, Global};
 use std::test::Fail;
+
+mod swap;
 
 const FILE: &[u8] = b"hello\n";
 
@@ -400,7 +402,7 @@ impl Disk for LongDisk {
     }
 
     fn swap_len(&mut self) -> Result<u64, DiskFail> {
-        Err(DiskFail::Failed)
+        Ok(0)
     }
 
     fn swap_at(&mut self, _from: u64, _buf: &mut [u8]) -> Result<(), DiskFail> {
@@ -438,11 +440,13 @@ fn a_file_that_is_too_long(rt: HostRuntime) -> Result<(), Fail> {
 
 #[test]
 fn words_that_are_no_command(rt: HostRuntime) -> Result<(), Fail> {
-    let table: [(&[&str], u32); 6] = [
+    let table: [(&[&str], u32); 8] = [
         (&[], 0),
-        (&["check", "file"], 0),
+        (&["restore", "file"], 0),
         (&["", "file"], 0),
         (&["edit"], 1),
+        (&["recover"], 1),
+        (&["recover", "file", "more"], 2),
         (&["edit", ""], 1),
         (&["edit", "file", "more"], 2),
     ];
@@ -552,7 +556,29 @@ fn each_status_has_its_code_and_its_line(rt: HostRuntime) -> Result<(), Fail> {
             "kted: script too long",
         ),
         (Status::DiskFault, 5, "kted: the disk failed"),
+        (
+            Status::SwapPresent { bytes: 62 },
+            8,
+            "kted: swap file present: 62 bytes",
+        ),
+        (Status::SwapLost, 9, "kted: swap file lost"),
         (Status::WriteFault, 10, "kted: writing failed"),
+        (Status::NoSwap, 11, "kted: no swap file"),
+        (Status::Version, 12, "kted: unknown swap version"),
+        (
+            Status::FileChanged {
+                kept: Digest([0xCE; 20]),
+                found: Digest([1; 20]),
+            },
+            13,
+            "kted: file changed: swap cececececececececececececececececececece \
+file 0101010101010101010101010101010101010101",
+        ),
+        (
+            Status::Damaged { at: 62, done: 1 },
+            14,
+            "kted: swap damaged at byte 62 after 1 transactions",
+        ),
         (
             Status::NotUtf8 { at: 7 },
             6,

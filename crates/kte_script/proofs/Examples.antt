@@ -137,14 +137,18 @@ two_words : command_at (codes "check word " ++ 34 ∷ 97 ∷ 92 ∷ 110 ∷ 34 �
 unfolding skip word behind string_from string_at line_in pattern_in pattern_at is_utf8 chars encode_utf8 rule_name rule_at row_at front_at end_at command_at
 two_words = refl
 
--- scripts have no word for these yet, and journals have
-no_sync : command_at (codes "sync") ≡ Err 4
+-- calls of the disk have no fields
+script_sync : command_at (codes "sync") ≡ Ok Sync
 unfolding skip word behind row_at front_at end_at command_at
-no_sync = refl
+script_sync = refl
 
-no_save : command_at (codes " save") ≡ Err 4
+script_save : command_at (codes " save  ") ≡ Ok Save
 unfolding skip word behind row_at front_at end_at command_at
-no_save = refl
+script_save = refl
+
+sync_now : command_at (codes "sync now") ≡ Err 3
+unfolding skip word behind row_at front_at end_at command_at
+sync_now = refl
 
 synced : front_at Journal table (codes "sync = asked") ≡ Ok (Sync, codes " = asked")
 unfolding skip word behind row_at front_at

@@ -6,7 +6,7 @@ use Rattle.kte_command.specs.declared.command.Command.{Command}
 use Rattle.kte_script.specs.declared.limits.Limits.TheVariants.{Script}
 use Rattle.kte_script.specs.Words.{is_space, skip}
 use Rattle.kte_script.specs.Fields.{Reading, ◌>>=◌, word_at}
-use Rattle.kte_script.specs.Table.{Values, Row, script_rows, row_in}
+use Rattle.kte_script.specs.Table.{Values, Row, table, row_in}
 use Rattle.kte_script.specs.Reading.{read_fields, row_at, front_at, end_at, command_at}
 use Rattle.kte_script.specs.InWords.{starts_otherwise, Begins, Misfits, HasFields, FailsFields, IsOneOf, IsWordOf, HasMore, IsCommandLine, IsFaultyLine}
 use Rattle.kte_script.proofs.AgainLemmas.{IsWord}
@@ -28,7 +28,7 @@ row_sound {A} (first ∷ rows) w row e =
           (inr p.0, p.1)
     ]
 
-row_listed : (row : Row Command) → IsOneOf script_rows row → IsWord row.word × (row_in script_rows row.word ≡ Some row)
+row_listed : (row : Row Command) → IsOneOf table row → IsWord row.word × (row_in table row.word ≡ Some row)
 row_listed row (inl e) = rw e (record { some = lit< tt; whole = refl }, refl)
 row_listed row (inr (inl e)) = rw e (record { some = lit< tt; whole = refl }, refl)
 row_listed row (inr (inr (inl e))) = rw e (record { some = lit< tt; whole = refl }, refl)
@@ -46,13 +46,15 @@ row_listed row (inr (inr (inr (inr (inr (inr (inr (inr (inr (inr (inr (inr (inr 
 row_listed row (inr (inr (inr (inr (inr (inr (inr (inr (inr (inr (inr (inr (inr (inr (inl e))))))))))))))) = rw e (record { some = lit< tt; whole = refl }, refl)
 row_listed row (inr (inr (inr (inr (inr (inr (inr (inr (inr (inr (inr (inr (inr (inr (inr (inl e)))))))))))))))) = rw e (record { some = lit< tt; whole = refl }, refl)
 row_listed row (inr (inr (inr (inr (inr (inr (inr (inr (inr (inr (inr (inr (inr (inr (inr (inr (inl e))))))))))))))))) = rw e (record { some = lit< tt; whole = refl }, refl)
-row_listed row (inr (inr (inr (inr (inr (inr (inr (inr (inr (inr (inr (inr (inr (inr (inr (inr (inr none))))))))))))))))) = absurd none
+row_listed row (inr (inr (inr (inr (inr (inr (inr (inr (inr (inr (inr (inr (inr (inr (inr (inr (inr (inl e)))))))))))))))))) = rw e (record { some = lit< tt; whole = refl }, refl)
+row_listed row (inr (inr (inr (inr (inr (inr (inr (inr (inr (inr (inr (inr (inr (inr (inr (inr (inr (inr (inl e))))))))))))))))))) = rw e (record { some = lit< tt; whole = refl }, refl)
+row_listed row (inr (inr (inr (inr (inr (inr (inr (inr (inr (inr (inr (inr (inr (inr (inr (inr (inr (inr (inr none))))))))))))))))))) = absurd none
 
-row_full : (w : List ℕ) (row : Row Command) → IsWordOf row w → IsWord w × (row_in script_rows w ≡ Some row)
+row_full : (w : List ℕ) (row : Row Command) → IsWordOf row w → IsWord w × (row_in table w ≡ Some row)
 row_full w row is = rw is.1 (row_listed row is.0)
 
-word_of_row_reads : Reads (λ row. Begins (IsWordOf row)) (Misfits IsWordOf) (word_at (row_in script_rows))
-word_of_row_reads = word_reads IsWordOf _ (meaning_front IsWordOf (row_in script_rows) (row_sound script_rows) row_full)
+word_of_row_reads : Reads (λ row. Begins (IsWordOf row)) (Misfits IsWordOf) (word_at (row_in table))
+word_of_row_reads = word_reads IsWordOf _ (meaning_front IsWordOf (row_in table) (row_sound table) row_full)
 
 -- ---- the end of a line
 
@@ -158,10 +160,10 @@ row_misses row after left f = rw ((fields_reads Script row.kinds).misses after l
 line_takes : (line : List ℕ) (command : Command) → command_at line ≡ Ok command → IsCommandLine line command
 unfolding command_at front_at
 line_takes line command e =
-    let p = bind_ok (word_at (row_in script_rows) line >>= λ row. row_at Script row.0 row.1) (λ found. end_at found.1 >>= λ _. Ok found.0) command e in
+    let p = bind_ok (word_at (row_in table) line >>= λ row. row_at Script row.0 row.1) (λ found. end_at found.1 >>= λ _. Ok found.0) command e in
     let q = bind_ok (end_at p.0.1) (λ _. Ok p.0.0) command p.2 in
     let is : p.0.0 ≡ command = done_same {A = Command} p.0.0 command q.2 in
-    let w = bind_ok (word_at (row_in script_rows) line) (λ row. row_at Script row.0 row.1) p.0 p.1 in
+    let w = bind_ok (word_at (row_in table) line) (λ row. row_at Script row.0 row.1) p.0 p.1 in
     let r = row_takes w.0.0 w.0.1 p.0.0 p.0.1 w.2 in
     record {
       row = w.0.0;
@@ -185,13 +187,13 @@ line_gives line command is =
 line_stops : (line : List ℕ) (left : ℕ) → command_at line ≡ Err left → IsFaultyLine line left
 unfolding command_at front_at
 line_stops line left e =
-    elim (bind_err (word_at (row_in script_rows) line >>= λ row. row_at Script row.0 row.1) (λ found. end_at found.1 >>= λ _. Ok found.0) left e) [
-      | inl f ↦ elim (bind_err (word_at (row_in script_rows) line) (λ row. row_at Script row.0 row.1) left f) [
+    elim (bind_err (word_at (row_in table) line >>= λ row. row_at Script row.0 row.1) (λ found. end_at found.1 >>= λ _. Ok found.0) left e) [
+      | inl f ↦ elim (bind_err (word_at (row_in table) line) (λ row. row_at Script row.0 row.1) left f) [
         | inl g ↦ inl (word_of_row_reads.stops line left g)
         | inr w ↦ inr (w.0.0, w.0.1, word_of_row_reads.takes line w.0.0 w.0.1 w.1, inl (row_stops w.0.0 w.0.1 left w.2))
       ]
       | inr p ↦
-          let w = bind_ok (word_at (row_in script_rows) line) (λ row. row_at Script row.0 row.1) p.0 p.1 in
+          let w = bind_ok (word_at (row_in table) line) (λ row. row_at Script row.0 row.1) p.0 p.1 in
           let r = row_takes w.0.0 w.0.1 p.0.0 p.0.1 w.2 in
           elim (bind_err (end_at p.0.1) (λ _. Ok p.0.0) left p.2) [
             | inl g ↦ inr (w.0.0, w.0.1, word_of_row_reads.takes line w.0.0 w.0.1 w.1, inr (r.0, p.0.1, r.1, end_more p.0.1 left g))

@@ -19,9 +19,9 @@ use Rattle.kte_script.specs.declared.limits.Limits.TheVariants.{Script}
 use Rattle.kte_script.specs.Words.{skip, word, ends_here}
 use Rattle.kte_script.specs.Strings.{spell_text}
 use Rattle.kte_script.specs.Fields.{Count, ALine, AColumn, most, Kind, Number, OrNone, APlace, ASpan, OrInvalid, Spans, AText, APattern, ARule, Expands, Empties, Succeeds, Closes, Value, Reading, read_field, spell_field, spell_number, spell_or_none, spell_place, spell_span, spell_or_invalid, spell_spans, spell_pattern, spell_rule, number_at, or_none_of, or_none_at, place_at, span_at, or_invalid_at, starts_number, spans_from, spans_at, ForWord, ForBlanks, ForLong, ForPairs, ForRepeat, rule_name, rule_at, expand_word, expand_of, expand_at, empty_of, empty_at, succeeds_of, succeeds_at, closes_of, closes_at}
-use Rattle.kte_script.specs.Table.{Values, Row, Filled, filled, script_rows, table, row_in, spell_fields, spell_filled, spelling}
+use Rattle.kte_script.specs.Table.{Values, Row, Filled, filled, table, row_in, spell_fields, spell_filled, spelling}
 use Rattle.kte_script.specs.Reading.{read_fields, row_at, front_at, end_at, command_at}
-use Rattle.kte_script.specs.Limits.{IsPlace, IsSpan, IsRule, Fits, AllFit, MayPrecede, ArePartedBy, IsWithin, InLimits, IsScripted}
+use Rattle.kte_script.specs.Limits.{IsPlace, IsSpan, IsRule, Fits, AllFit, MayPrecede, ArePartedBy, IsWithin, InLimits}
 use Rattle.kte_script.proofs.AgainLemmas.{IsWord, meant_again, taken, word-of, behind-of, skip-word, skip-first, limited, decimal_word, decimal_means, number_again, number_first, number_no_word}
 use Rattle.kte_script.proofs.QuotedLemmas.{text_again, pattern_again}
 
@@ -319,38 +319,11 @@ front_again limits command rest fits e =
     filled_again limits table (filled command) rest l.is l.there fits (l.parted rest) e
     ∙ ap (λ (c : Command). Ok (c, rest)) l.made
 
--- scripts have a word for it
-scripted : (command : Command) → IsScripted command
-    → row_in script_rows (filled command).row.word ≡ Some (filled command).row
-scripted (Edit (Change.Insert place text)) is = refl
-scripted (Edit (Change.Wrap place)) is = refl
-scripted (Edit (Change.Unwrap line)) is = refl
-scripted (Edit (Change.Remove span)) is = refl
-scripted (Edit (Change.Replace span text)) is = refl
-scripted Begin is = refl
-scripted End is = refl
-scripted Undo is = refl
-scripted Redo is = refl
-scripted (MakeRange span expand empty) is = refl
-scripted (SetRange id span) is = refl
-scripted (DropRange id) is = refl
-scripted (ShowRange id) is = refl
-scripted Lock is = refl
-scripted (Unlock revision) is = refl
-scripted (Land revision span expand empty) is = refl
-scripted (Check rule) is = refl
-scripted Sync is = absurd is
-scripted Save is = absurd is
-
-pub command_again : (command : Command) → InLimits command → IsScripted command
-    → command_at (spelling command) ≡ Ok command
+pub command_again : (command : Command) → InLimits command → command_at (spelling command) ≡ Ok command
 unfolding command_at end_at skip
-command_again command fits is =
-    let l = listed command in
-    let front : front_at Script script_rows (spelling command) ≡ Ok (command, []) =
-    ap (front_at Script script_rows) (sym (append-nil (spelling command)))
-    ∙ filled_again Script script_rows (filled command) [] l.is (scripted command is) fits (l.parted []) refl
-    ∙ ap (λ (c : Command). Ok (c, [])) l.made in
+command_again command fits =
+    let front : front_at Script table (spelling command) ≡ Ok (command, []) =
+    ap (front_at Script table) (sym (append-nil (spelling command))) ∙ front_again Script command [] fits refl in
     rw front refl
 
 abbrev done : {A : Type 0} → A → Result A ℕ

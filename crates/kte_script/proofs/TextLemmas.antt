@@ -30,7 +30,7 @@ use Rattle.kte_script.specs.Words.{skip}
 use Rattle.kte_script.specs.Strings.{hex_digit, spell_byte, utf8_of_text, spell_text}
 use Rattle.kte_script.specs.Fields.{Count, ALine, AColumn, most, Kind, Number, OrNone, APlace, ASpan, OrInvalid, Spans, AText, APattern, ARule, Expands, Empties, Succeeds, Closes, Value, spell_field, spell_number, spell_or_none, spell_place, spell_span, spell_or_invalid, spell_spans, spell_pattern, spell_rule, expand_word, empty_word, succeeds_word, closes_word}
 use Rattle.kte_script.specs.Table.{Values, filled, spell_fields, spelling}
-use Rattle.kte_script.specs.Limits.{IsPlace, IsSpan, IsPattern, IsRule, Fits, AllFit, IsWithin, InLimits, IsScripted}
+use Rattle.kte_script.specs.Limits.{IsPlace, IsSpan, IsPattern, IsRule, Fits, AllFit, IsWithin, InLimits}
 use Rattle.kte_script.specs.Script.{Says, is_skipped, meaning}
 use Rattle.kte_script.specs.Spelled.{is_itself}
 use Rattle.kte_script.proofs.AgainLemmas.{skip-word, limited}
@@ -283,9 +283,9 @@ spelling_text limits command fits =
     let f = filled command in
     IsUtf8-append f.row.word (spell_fields f.row.kinds f.values) (word_text command) (fields_text limits f.row.kinds f.values fits)
 
-pub line_again : (command : Command) → InLimits command → IsScripted command → meaning (spelling command) ≡ Says command
-line_again command fits is =
+pub line_again : (command : Command) → InLimits command → meaning (spelling command) ≡ Says command
+line_again command fits =
     let f = filled command in
     let fields = spell_fields f.row.kinds f.values in
     let words : skip (spelling command) ≡ spelling command = skip-word f.row.word fields (listed command).is in
-    says (spelling command) command (spelling_text Script command fits) (ap is_skipped words ∙ no_comment command fields) (command_again command fits is)
+    says (spelling command) command (spelling_text Script command fits) (ap is_skipped words ∙ no_comment command fields) (command_again command fits)

@@ -20,9 +20,9 @@ use Rattle.kte_script.specs.declared.limits.Limits.{Limits}
 use Rattle.kte_script.specs.declared.limits.Limits.TheVariants.{Script}
 use Rattle.kte_script.specs.Words.{skip, word}
 use Rattle.kte_script.specs.Fields.{Count, Kind, Number, OrNone, APlace, ASpan, OrInvalid, Spans, AText, APattern, ARule, Expands, Empties, Succeeds, Closes, Value, RuleName, ForWord, ForBlanks, ForLong, ForPairs, ForRepeat, word_at}
-use Rattle.kte_script.specs.Table.{Values, Row, script_rows, table, row_in}
+use Rattle.kte_script.specs.Table.{Values, Row, table, row_in}
 use Rattle.kte_script.specs.Reading.{read_fields, row_at, front_at, command_at}
-use Rattle.kte_script.specs.Limits.{IsPlace, IsSpan, IsRule, Fits, AllFit, IsWithin, InLimits, IsScripted}
+use Rattle.kte_script.specs.Limits.{IsPlace, IsSpan, IsRule, Fits, AllFit, IsWithin, InLimits}
 use Rattle.kte_script.specs.Script.{Meaning, Nothing, Says, Faulty, is_skipped, said, meaning, before_all, with_line, read_from}
 use Rattle.kte_script.specs.InWords.{IsNumber, IsOrNone, HasPlace, HasSpan, HasOrInvalid, HasSome, HasRuleAfter, HasRule, HasField, HasFields, IsOneOf}
 use Rattle.kte_script.proofs.ReadsLemmas.{bind_ok, done_same, word_found}
@@ -104,7 +104,7 @@ fields_fit limits (kind ∷ kinds) values bytes rest h =
 abbrev Refilled : Limits → Row Command → Type 0
 Refilled limits row = (values : Values row.kinds) → AllFit limits row.kinds values → IsWithin limits (row.make values)
 
-refilled : (limits : Limits) (row : Row Command) → IsOneOf script_rows row → Refilled limits row
+refilled : (limits : Limits) (row : Row Command) → IsOneOf table row → Refilled limits row
 refilled limits row (inl e) = subst (Refilled limits) (sym e) (λ values fits. fits)
 refilled limits row (inr (inl e)) = subst (Refilled limits) (sym e) (λ values fits. fits)
 refilled limits row (inr (inr (inl e))) = subst (Refilled limits) (sym e) (λ values fits. fits)
@@ -122,37 +122,9 @@ refilled limits row (inr (inr (inr (inr (inr (inr (inr (inr (inr (inr (inr (inr 
 refilled limits row (inr (inr (inr (inr (inr (inr (inr (inr (inr (inr (inr (inr (inr (inr (inl e))))))))))))))) = subst (Refilled limits) (sym e) (λ values fits. fits)
 refilled limits row (inr (inr (inr (inr (inr (inr (inr (inr (inr (inr (inr (inr (inr (inr (inr (inl e)))))))))))))))) = subst (Refilled limits) (sym e) (λ values fits. fits)
 refilled limits row (inr (inr (inr (inr (inr (inr (inr (inr (inr (inr (inr (inr (inr (inr (inr (inr (inl e))))))))))))))))) = subst (Refilled limits) (sym e) (λ values fits. fits)
-refilled limits row (inr (inr (inr (inr (inr (inr (inr (inr (inr (inr (inr (inr (inr (inr (inr (inr (inr none))))))))))))))))) = absurd none
-
--- the rows that a script knows make commands that scripts have a word for
-abbrev Makes : Row Command → Type 0
-Makes row = (values : Values row.kinds) → IsScripted (row.make values)
-
-scripted : (row : Row Command) → IsOneOf script_rows row → Makes row
-scripted row (inl e) = subst Makes (sym e) (λ values. tt)
-scripted row (inr (inl e)) = subst Makes (sym e) (λ values. tt)
-scripted row (inr (inr (inl e))) = subst Makes (sym e) (λ values. tt)
-scripted row (inr (inr (inr (inl e)))) = subst Makes (sym e) (λ values. tt)
-scripted row (inr (inr (inr (inr (inl e))))) = subst Makes (sym e) (λ values. tt)
-scripted row (inr (inr (inr (inr (inr (inl e)))))) = subst Makes (sym e) (λ values. tt)
-scripted row (inr (inr (inr (inr (inr (inr (inl e))))))) = subst Makes (sym e) (λ values. tt)
-scripted row (inr (inr (inr (inr (inr (inr (inr (inl e)))))))) = subst Makes (sym e) (λ values. tt)
-scripted row (inr (inr (inr (inr (inr (inr (inr (inr (inl e))))))))) = subst Makes (sym e) (λ values. tt)
-scripted row (inr (inr (inr (inr (inr (inr (inr (inr (inr (inl e)))))))))) = subst Makes (sym e) (λ values. tt)
-scripted row (inr (inr (inr (inr (inr (inr (inr (inr (inr (inr (inl e))))))))))) = subst Makes (sym e) (λ values. tt)
-scripted row (inr (inr (inr (inr (inr (inr (inr (inr (inr (inr (inr (inl e)))))))))))) = subst Makes (sym e) (λ values. tt)
-scripted row (inr (inr (inr (inr (inr (inr (inr (inr (inr (inr (inr (inr (inl e))))))))))))) = subst Makes (sym e) (λ values. tt)
-scripted row (inr (inr (inr (inr (inr (inr (inr (inr (inr (inr (inr (inr (inr (inl e)))))))))))))) = subst Makes (sym e) (λ values. tt)
-scripted row (inr (inr (inr (inr (inr (inr (inr (inr (inr (inr (inr (inr (inr (inr (inl e))))))))))))))) = subst Makes (sym e) (λ values. tt)
-scripted row (inr (inr (inr (inr (inr (inr (inr (inr (inr (inr (inr (inr (inr (inr (inr (inl e)))))))))))))))) = subst Makes (sym e) (λ values. tt)
-scripted row (inr (inr (inr (inr (inr (inr (inr (inr (inr (inr (inr (inr (inr (inr (inr (inr (inl e))))))))))))))))) = subst Makes (sym e) (λ values. tt)
-scripted row (inr (inr (inr (inr (inr (inr (inr (inr (inr (inr (inr (inr (inr (inr (inr (inr (inr (none)))))))))))))))))) = absurd none
-
--- .. so of all commands
-all_refilled : (limits : Limits) (row : Row Command) → IsOneOf table row → Refilled limits row
-all_refilled limits row (inl e) = subst (Refilled limits) (sym e) (λ values fits. fits)
-all_refilled limits row (inr (inl e)) = subst (Refilled limits) (sym e) (λ values fits. fits)
-all_refilled limits row (inr (inr there)) = refilled limits row there
+refilled limits row (inr (inr (inr (inr (inr (inr (inr (inr (inr (inr (inr (inr (inr (inr (inr (inr (inr (inl e)))))))))))))))))) = subst (Refilled limits) (sym e) (λ values fits. fits)
+refilled limits row (inr (inr (inr (inr (inr (inr (inr (inr (inr (inr (inr (inr (inr (inr (inr (inr (inr (inr (inl e))))))))))))))))))) = subst (Refilled limits) (sym e) (λ values fits. fits)
+refilled limits row (inr (inr (inr (inr (inr (inr (inr (inr (inr (inr (inr (inr (inr (inr (inr (inr (inr (inr (inr none))))))))))))))))))) = absurd none
 
 -- what is read in front is within the limits
 pub front_within : (limits : Limits) (bytes : List ℕ) (command : Command) (rest : List ℕ)
@@ -166,17 +138,12 @@ front_within limits bytes command rest e =
     let row = row_sound table (word (skip bytes)) p.0.0 named in
     let has = (fields_reads limits p.0.0.kinds).takes p.0.1 q.0.0 q.0.1 q.1 in
     subst (λ (z : Command × List ℕ). IsWithin limits z.0) is
-    (all_refilled limits p.0.0 row.0 q.0.0 (fields_fit limits p.0.0.kinds q.0.0 p.0.1 q.0.1 has))
+    (refilled limits p.0.0 row.0 q.0.0 (fields_fit limits p.0.0.kinds q.0.0 p.0.1 q.0.1 has))
 
 command_fits : (line : List ℕ) (command : Command) → command_at line ≡ Ok command → InLimits command
 command_fits line command e =
     let is = (commands_in_words line command).0 e in
     rw is.made (refilled Script is.row is.named.is.0 is.values (fields_fit Script is.row.kinds is.values is.after is.end is.has))
-
-command_scripted : (line : List ℕ) (command : Command) → command_at line ≡ Ok command → IsScripted command
-command_scripted line command e =
-    let is = (commands_in_words line command).0 e in
-    rw is.made (scripted is.row is.named.is.0 is.values)
 
 said_says : (size : ℕ) (read : Result Command ℕ) (command : Command) → said size read ≡ Says command → read ≡ Ok command
 said_says size (Ok c) command e = cc
@@ -244,10 +211,6 @@ all_said P holds (line ∷ lines) number room commands e =
 pub all_fit : (lines : List (List ℕ)) (number room : ℕ) (commands : List Command)
     → read_from number room lines ≡ Ok commands → All InLimits commands
 all_fit lines number room commands e = all_said InLimits command_fits lines number room commands e
-
-pub all_scripted : (lines : List (List ℕ)) (number room : ℕ) (commands : List Command)
-    → read_from number room lines ≡ Ok commands → All IsScripted commands
-all_scripted lines number room commands e = all_said IsScripted command_scripted lines number room commands e
 
 -- ---- the numbers are in their ranges
 

@@ -1,5 +1,6 @@
--- What a line says, in words: words are what stands between spaces, and a string ends at its first
--- mark that is not escaped. Laws say that reading is just this. This project's own form
+-- The meaning of a line, stated over its words. A word is the bytes between two spaces, and a string
+-- ends at its first quotation mark that is not escaped. Laws prove that reading agrees with it. This
+-- project's own form
 use Rattle.std.specs.Prelude.{◌≡◌, ℕ, ◌/◌, ◌%◌, ◌≤◌, ◌⊎◌, Bool, true, false, List, [], ◌∷◌, ◌++◌, length, codes, Option, None, Some}
 use Rattle.std.specs.List.{list_all}
 use Rattle.std.specs.Str.Parse.{IsNumeral, digits_value}
@@ -19,7 +20,7 @@ use Rattle.kte_script.specs.declared.limits.Limits.TheVariants.{Script}
 use Rattle.kte_script.specs.Words.{is_space, is_other, ends_here}
 use Rattle.kte_script.specs.Strings.{is_plain, is_coded, hex_digit, utf8_of_text}
 use Rattle.kte_script.specs.Fields.{Count, ALine, AColumn, most, most_digits, Kind, Number, OrNone, APlace, ASpan, OrInvalid, Spans, AText, APattern, ARule, Expands, Empties, Succeeds, Closes, Value, starts_number, RuleName, ForWord, ForBlanks, ForLong, ForPairs, ForRepeat, rule_word, expand_word, empty_word, succeeds_word, closes_word}
-use Rattle.kte_script.specs.Table.{Values, Row, script_rows}
+use Rattle.kte_script.specs.Table.{Values, Row, table}
 use Rattle.kte_script.specs.Limits.{IsPattern}
 
 -- ---- the first word
@@ -264,9 +265,9 @@ abbrev pub IsOneOf : {A : Type 0} → List (Row A) → Row A → Type 0
 IsOneOf [] row = ⊥
 IsOneOf (first ∷ rows) row = (row ≡ first) ⊎ IsOneOf rows row
 
--- the word of a row that a script may hold
+-- the word of a row of the table
 abbrev pub IsWordOf : Row Command → List ℕ → Type 0
-IsWordOf row word = IsOneOf script_rows row × (word ≡ row.word)
+IsWordOf row word = IsOneOf table row × (word ≡ row.word)
 
 -- there is a further word, and so many bytes are left from it on
 pub record HasMore (bytes : List ℕ) (left : ℕ) : Type 0 where

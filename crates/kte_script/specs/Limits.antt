@@ -9,7 +9,6 @@ use Rattle.kte_place.specs.declared.place.Place.{Place}
 use Rattle.kte_place.specs.Ends.{Ends}
 use Rattle.kte_place.specs.Place.{is_at_or_before}
 use Rattle.kte_command.specs.declared.command.Command.{Command}
-use Rattle.kte_command.specs.declared.command.Command.TheVariants.{Edit, Begin, End, Undo, Redo, MakeRange, SetRange, DropRange, ShowRange, Lock, Unlock, Land, Check, Sync, Save}
 use Rattle.kte_script.specs.declared.limits.Limits.{Limits}
 use Rattle.kte_script.specs.declared.limits.Limits.TheVariants.{Script, Journal}
 use Rattle.kte_script.specs.Words.{skip}
@@ -76,24 +75,6 @@ IsWithin limits command = AllFit limits (filled command).row.kinds (filled comma
 -- a command within the limits of a script
 abbrev pub InLimits : Command → Type 0
 InLimits command = IsWithin Script command
-
--- a command that scripts have a word for: all but Sync and Save, which are not carried out yet
-abbrev pub IsScripted : Command → Type 0
-IsScripted (Edit change) = Unit {0}
-IsScripted Begin = Unit {0}
-IsScripted End = Unit {0}
-IsScripted Undo = Unit {0}
-IsScripted Redo = Unit {0}
-IsScripted (MakeRange span expand empty) = Unit {0}
-IsScripted (SetRange id span) = Unit {0}
-IsScripted (DropRange id) = Unit {0}
-IsScripted (ShowRange id) = Unit {0}
-IsScripted Lock = Unit {0}
-IsScripted (Unlock revision) = Unit {0}
-IsScripted (Land revision span expand empty) = Unit {0}
-IsScripted (Check rule) = Unit {0}
-IsScripted Sync = ⊥
-IsScripted Save = ⊥
 
 -- bytes begin with the canonical spelling of a command, of this length, and a space
 pub record BeginsWith (bytes : List ℕ) (command : Command) (size : ℕ) : Type 0 where

@@ -7,7 +7,7 @@ use Rattle.kte_script.specs.declared.limits.Limits.{Limits}
 use Rattle.kte_script.specs.declared.limits.Limits.TheVariants.{Script}
 use Rattle.kte_script.specs.Words.{skip}
 use Rattle.kte_script.specs.Fields.{Kind, Reading, ◌>>=◌, word_at, read_field}
-use Rattle.kte_script.specs.Table.{Values, Row, script_rows, row_in}
+use Rattle.kte_script.specs.Table.{Values, Row, table, row_in}
 
 -- the fields, one after another
 abbrev pub read_fields : Limits → (kinds : List Kind) → List ℕ → Reading (Values kinds)
@@ -32,7 +32,7 @@ end_at bytes = if length (skip bytes) == 0 then Ok tt else Err (length (skip byt
 
 -- the command that is all of a script's line
 unfoldable pub command_at : List ℕ → Result Command ℕ
-command_at line = front_at Script script_rows line >>= λ found. end_at found.1 >>= λ _. Ok found.0
+command_at line = front_at Script table line >>= λ found. end_at found.1 >>= λ _. Ok found.0
 
 -- the row that a word was found to name, with so many bytes left from that word on
 abbrev pub row_or_fault : {A : Type 0} → Limits → Option (Row A) → ℕ → List ℕ → Reading A

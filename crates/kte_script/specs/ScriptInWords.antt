@@ -1,4 +1,5 @@
--- What a whole script says, in words. Laws say that reading is just this. This project's own form
+-- The meaning of a whole script, stated over its lines. Laws prove that reading agrees with it. This
+-- project's own form
 use Rattle.std.specs.Prelude.{◌≡◌, ℕ, ◌+◌, ◌≤◌, ◌⊎◌, List, [], ◌∷◌, ◌++◌, length}
 use Rattle.kte_command.specs.declared.command.Command.{Command}
 use Rattle.kte_script.specs.declared.TheConstants.{MAX_SCRIPT_LENGTH, MAX_COMMANDS}

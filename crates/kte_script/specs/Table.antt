@@ -170,19 +170,19 @@ save_row = record {
   make = λ v. Save;
 }
 
--- the commands about transactions, ranges, revisions and jobs
+-- the commands about ranges
+abbrev pub range_rows : List (Row Command)
+range_rows = range_row ∷ setrange_row ∷ droprange_row ∷ where_row ∷ land_row ∷ []
+
+-- the commands about transactions, revisions, jobs, the disk and ranges
 abbrev pub other_rows : List (Row Command)
 other_rows =
-    begin_row ∷ end_row ∷ undo_row ∷ redo_row ∷ range_row ∷ setrange_row ∷ droprange_row ∷ where_row
-    ∷ lock_row ∷ unlock_row ∷ land_row ∷ check_row ∷ []
-
--- the commands that a script may hold
-abbrev pub script_rows : List (Row Command)
-script_rows = insert_row ∷ wrap_row ∷ unwrap_row ∷ remove_row ∷ replace_row ∷ other_rows
+    begin_row ∷ end_row ∷ undo_row ∷ redo_row ∷ lock_row ∷ unlock_row ∷ check_row ∷ sync_row
+    ∷ save_row ∷ range_rows
 
 -- all commands
 abbrev pub table : List (Row Command)
-table = sync_row ∷ save_row ∷ script_rows
+table = insert_row ∷ wrap_row ∷ unwrap_row ∷ remove_row ∷ replace_row ∷ other_rows
 
 -- the row of a word
 abbrev pub row_in : {A : Type 0} → List (Row A) → List ℕ → Option (Row A)

@@ -1,7 +1,7 @@
 //! The commands that words make, a row of their table each.
 ghost use Rattle.std.specs.Prelude.{◌≡◌};
 ghost use Rattle.kte_script.specs.declared.limits.Limits.TheVariants.{Script};
-ghost use Rattle.kte_script.specs.Table.{insert_row, wrap_row, unwrap_row, remove_row, replace_row, range_row, setrange_row, droprange_row, where_row, unlock_row, land_row, check_row, other_rows, script_rows, table, row_in};
+ghost use Rattle.kte_script.specs.Table.{insert_row, wrap_row, unwrap_row, remove_row, replace_row, range_row, setrange_row, droprange_row, where_row, unlock_row, land_row, check_row, range_rows, other_rows, table, row_in};
 ghost use Rattle.kte_script.specs.Reading.{Gives, Moves, row_at, row_or_fault, front_at, command_at};
 
 use crate::fault::ReadError;
@@ -17,7 +17,7 @@ pub(crate) fn read_line(alloc: Global, line: &[u8]) -> Result<Command, ReadError
     ensures { Gives (λ command. command) result (command_at line.now) }
 {
     let mut words = Words { rest: line };
-    let command = words.script_command(alloc)?;
+    let command = words.command(alloc, Limits::Script)?;
     words.finish()?;
     Ok(command)
 }
@@ -29,39 +29,7 @@ impl Words<'_> {
         ensures { Moves result self.new.rest.now (front_at limits table self.old.rest.now) }
     {
         let (word, left) = self.word();
-        self.any_of(alloc, limits, word, left)
-    }
-
-    /// Takes a command that a script may hold.
-    #[tactic(auto, unfolding(crate::specs::Reading::front_at))]
-    fn script_command(&mut self, alloc: Global) -> Result<Command, ReadError>
-        ensures { Moves result self.new.rest.now
-            (front_at Script script_rows self.old.rest.now) }
-    {
-        let (word, left) = self.word();
-        self.command_of(alloc, Limits::Script, word, left)
-    }
-
-    /// Takes the fields of the command that a word names, also if no script may hold it. From that
-    /// word on `left` bytes are left.
-    #[tactic(auto, unfolding(crate::specs::Reading::row_at))]
-    fn any_of(
-        &mut self,
-        alloc: Global,
-        limits: Limits,
-        word: &[u8],
-        left: usize,
-    ) -> Result<Command, ReadError>
-        ensures { Moves result self.new.rest.now
-            (row_or_fault limits (row_in table word.now) left self.old.rest.now) }
-    {
-        if word == b"sync".as_slice() {
-            Ok(Command::Sync)
-        } else if word == b"save".as_slice() {
-            Ok(Command::Save)
-        } else {
-            self.command_of(alloc, limits, word, left)
-        }
+        self.command_of(alloc, limits, word, left)
     }
 
     /// Takes the fields of the command that a word names. From that word on `left` bytes are left.
@@ -73,7 +41,7 @@ impl Words<'_> {
         left: usize,
     ) -> Result<Command, ReadError>
         ensures { Moves result self.new.rest.now
-            (row_or_fault limits (row_in script_rows word.now) left self.old.rest.now) }
+            (row_or_fault limits (row_in table word.now) left self.old.rest.now) }
     {
         if word == b"insert".as_slice() {
             self.insert(alloc, limits)
@@ -111,7 +79,28 @@ impl Words<'_> {
             Ok(Command::Undo)
         } else if word == b"redo".as_slice() {
             Ok(Command::Redo)
-        } else if word == b"range".as_slice() {
+        } else if word == b"lock".as_slice() {
+            Ok(Command::Lock)
+        } else if word == b"unlock".as_slice() {
+            self.unlock(limits)
+        } else if word == b"check".as_slice() {
+            self.check(alloc, limits)
+        } else if word == b"sync".as_slice() {
+            Ok(Command::Sync)
+        } else if word == b"save".as_slice() {
+            Ok(Command::Save)
+        } else {
+            self.range_of(limits, word, left)
+        }
+    }
+
+    /// Takes the fields of the command about ranges that a word names. From that word on `left`
+    /// bytes are left.
+    fn range_of(&mut self, limits: Limits, word: &[u8], left: usize) -> Result<Command, ReadError>
+        ensures { Moves result self.new.rest.now
+            (row_or_fault limits (row_in range_rows word.now) left self.old.rest.now) }
+    {
+        if word == b"range".as_slice() {
             self.range(limits)
         } else if word == b"setrange".as_slice() {
             self.setrange(limits)
@@ -119,14 +108,8 @@ impl Words<'_> {
             self.droprange(limits)
         } else if word == b"where".as_slice() {
             self.show(limits)
-        } else if word == b"lock".as_slice() {
-            Ok(Command::Lock)
-        } else if word == b"unlock".as_slice() {
-            self.unlock(limits)
         } else if word == b"land".as_slice() {
             self.land(limits)
-        } else if word == b"check".as_slice() {
-            self.check(alloc, limits)
         } else {
             Err(ReadError::Misfit { left })
         }

@@ -3,7 +3,7 @@ ghost use Rattle.std.specs.Prelude.{◌≡◌, ◌↔◌, ℕ, true, Ok, Err, Li
 ghost use Rattle.kte_command.specs.declared.command.Command.{Command};
 ghost use Rattle.kte_script.specs.Fields.{Kind};
 ghost use Rattle.kte_script.specs.InWords.{IsCommandLine, IsFaultyLine};
-ghost use Rattle.kte_script.specs.Limits.{AllFit, ArePartedBy, IsWithin, InLimits, IsScripted};
+ghost use Rattle.kte_script.specs.Limits.{AllFit, ArePartedBy, IsWithin, InLimits};
 ghost use Rattle.kte_script.specs.Reading.{read_fields, command_at};
 ghost use Rattle.kte_script.specs.Script.{Says, meaning, script_of};
 ghost use Rattle.kte_script.specs.ScriptInWords.{IsScript, IsBad, HasTooMany};
@@ -14,11 +14,11 @@ ghost use Rattle.kte_script.specs.declared.limits.Limits.TheVariants.{Journal};
 ghost use Rattle.kte_script.specs.declared.fault.ScriptFault.TheVariants.{Bad, TooMany};
 
 /// A command within the limits of a script, spelled and read, is itself: a line that is its
-/// spelling says this command. So it is with all commands that scripts have a word for.
+/// spelling says this command.
 pub fn spelled_and_read()
-    ensures words { (command : Command) → InLimits command → IsScripted command
+    ensures words { (command : Command) → InLimits command
         → command_at (spelling command) ≡ Ok command }
-    ensures line { (command : Command) → InLimits command → IsScripted command
+    ensures line { (command : Command) → InLimits command
         → meaning (spelling command) ≡ Says command }
 {}
 

@@ -3,7 +3,7 @@ ghost use Rattle.std.specs.Prelude.{◌≡◌, ◌≢◌, ℕ, ◌+◌, ◌-◌,
 ghost use Rattle.kte_command.specs.Commands.{InRange};
 ghost use Rattle.kte_script.specs.declared.TheConstants.{MAX_COMMANDS, MAX_SCRIPT_LENGTH};
 ghost use Rattle.kte_script.specs.declared.fault.ScriptFault.TheVariants as fault;
-ghost use Rattle.kte_script.specs.Limits.{InLimits, IsScripted};
+ghost use Rattle.kte_script.specs.Limits.{InLimits};
 ghost use Rattle.kte_script.specs.Script.{script_of, lines_of, read_from, after_all, FailsScript};
 
 use crate::fault::ScriptFault;
@@ -86,8 +86,6 @@ pub fn read_script(alloc: Global, bytes: &[u8]) -> Result<Script, ScriptFault>
     ensures too_long { (result ≡ Err fault.TooLong) ↔ (MAX_SCRIPT_LENGTH < length bytes.now) }
     ensures few { IfOk result (λ script. length script ≤ MAX_COMMANDS) }
     ensures limits { IfOk result (λ script. All InLimits script) }
-    // A script makes no call outside yet.
-    ensures scripted { IfOk result (λ script. All IsScripted script) }
     ensures in_range { IfOk result (λ script. All InRange script) }
 {
     if bytes.len() as u64 > MAX_SCRIPT_LENGTH {

@@ -27,7 +27,7 @@ fn spelled(alloc: Global, script: &[u8]) -> Result<String, Fail> {
 #[test]
 fn scripts_are_read(rt: HostRuntime) -> Result<(), Fail> {
     let alloc = rt.alloc();
-    let table: [(&[u8], &str); 28] = [
+    let table: [(&[u8], &str); 29] = [
         (b"", ""),
         (b"\n  \n\r\n# insert 0 0 \"a\n  #", ""),
         (b"insert 0 5 \"!\"", "insert 0 5 \"!\"\n"),
@@ -86,6 +86,10 @@ fn scripts_are_read(rt: HostRuntime) -> Result<(), Fail> {
             b"check  long 0000000080\n check pairs\ncheck repeat ",
             "check long 80\ncheck pairs\ncheck repeat\n",
         ),
+        (
+            b"wrap 0 0\nsync\n  save \r\nsave",
+            "wrap 0 0\nsync\nsave\nsave\n",
+        ),
     ];
     for (script, want) in table {
         let text = spelled(alloc, script)?;
@@ -97,7 +101,7 @@ fn scripts_are_read(rt: HostRuntime) -> Result<(), Fail> {
 #[test]
 fn the_first_fault_is_named(rt: HostRuntime) -> Result<(), Fail> {
     let alloc = rt.alloc();
-    let table: [(&[u8], u64, u64); 82] = [
+    let table: [(&[u8], u64, u64); 85] = [
         (b"lock 0", 1, 6),
         (b"unlock 4294967296", 1, 8),
         (b"land 0 0 0 0 1 none", 1, 20),
@@ -174,8 +178,11 @@ fn the_first_fault_is_named(rt: HostRuntime) -> Result<(), Fail> {
         (b"check long 1073741825", 1, 12),
         (b"check blanks x", 1, 14),
         (b"check Pairs", 1, 7),
-        (b"sync", 1, 1),
-        (b"lock\n save", 2, 2),
+        (b"sync 1", 1, 6),
+        (b"lock\n save  \"\"", 2, 8),
+        (b"Sync", 1, 1),
+        (b"sync\nsaved", 2, 1),
+        (b"save\n sync\t", 2, 2),
         (b"# \xC3", 1, 3),
         (b"\xEF\xBB\xBFwrap 0 0", 1, 1),
         (b"wrap 0 0\n\nbad \xFF\nbad", 3, 5),

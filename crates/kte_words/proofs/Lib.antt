@@ -1,2 +1,4 @@
 pub mod MisfitLemmas
+pub mod FormLemmas
+pub mod CommandLemmas
 mod Examples

@@ -1,17 +1,26 @@
 -- Which words are a command of the program, and which word does not fit. This project's own form
-use Rattle.std.specs.Prelude.{◌≡◌, ◌≢◌, ◌≤◌, ◌↔◌, ℕ, List, [], ◌∷◌, ◌++◌, length, take, codes, Option, Some}
+use Rattle.std.specs.Prelude.{◌≡◌, ◌≤◌, ◌↔◌, ℕ, List, [], ◌∷◌, ◌++◌, length, take, codes, Option, Some}
+use Rattle.kte_words.specs.Forms.{Part, Lead, AFile, Are}
 use Rattle.kte_words.specs.declared.words.Words.{Words}
-use Rattle.kte_words.specs.declared.words.Words.TheVariants.{Edit}
+use Rattle.kte_words.specs.declared.words.Words.TheVariants.{Edit, Recover}
 
--- The words of each command, one case a command; no other words are one. A file's name is any word
--- that is not empty
+-- a command's word, and the name of a file
+abbrev pub file_form : List ℕ → List Part
+file_form lead = Lead lead ∷ AFile ∷ []
+
+-- the words are a command of this word for the file that the word of this index names
+abbrev pub SpellsFile : List ℕ → List (List ℕ) → ℕ → Type 0
+SpellsFile lead words file = Are (file_form lead) words × (file ≡ 1)
+
+-- the words of each command, one case a command; no other words are one
 abbrev pub Spells : List (List ℕ) → Words → Type 0
-Spells (word ∷ name ∷ []) (Edit file) = (word ≡ codes "edit") × (name ≢ []) × (file ≡ 1)
-Spells words command = ⊥
+Spells words (Edit file) = SpellsFile (codes "edit") words file
+Spells words (Recover file) = SpellsFile (codes "recover") words file
 
 -- the index of the word that names the command's file
 abbrev pub file_of : Words → Option ℕ
 file_of (Edit file) = Some file
+file_of (Recover file) = Some file
 
 -- the words are a command
 abbrev pub IsCommand : List (List ℕ) → Type 0

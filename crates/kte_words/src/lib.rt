@@ -3,7 +3,8 @@
 //!
 //! [`parse`] reads the words. It is proved to give the command that they spell, and otherwise the
 //! length of the longest front of them that begins a command. `laws` proves that there is always
-//! one of the two and never both.
+//! one of the two and never both. What the words of each command are is a case of `Spells` in
+//! `specs/Words.antt`: a new command is a case there.
 //!
 //! - `word`: a word
 //! - `words`: the commands of the program

@@ -9,6 +9,11 @@ pub enum Words {
         /// The index, from 0, of the word that names the file.
         file: u32,
     },
+    /// `recover FILE`: prints the text that a file and the swap file beside it recover to.
+    Recover {
+        /// The index, from 0, of the word that names the file.
+        file: u32,
+    },
 }
 
 impl Words {
@@ -17,7 +22,7 @@ impl Words {
         ensures { result ≡ file_of self.now }
     {
         match self {
-            Words::Edit { file } => Some(*file),
+            Words::Edit { file } | Words::Recover { file } => Some(*file),
         }
     }
 }

@@ -1,4 +1,4 @@
-//! `kted`: edits the text of a file by a script.
+//! `kted`: edits the text of a file by a script, and recovers what was typed from its swap file.
 //!
 //! What it does is proved of `kte_run::run`, over any source, sink and disk; here stand the real
 //! ones.
@@ -18,7 +18,7 @@ const FIRST_ROOM: usize = 256;
 
 fn main(rt: HostRuntime) -> ExitCode {
     let status = match words(&rt) {
-        Ok(words) => edit(&rt, &words),
+        Ok(words) => run_words(&rt, &words),
         Err(AllocError) => Status::NoMemory,
     };
     report(&rt, status);
@@ -58,7 +58,7 @@ fn word(rt: &(impl Env + Alloc<A = Global>), n: usize) -> Result<Option<Word>, A
 
 /// Runs the words over the real streams, and over the file that they name. If they are no command,
 /// no file is touched.
-fn edit(rt: &HostRuntime, words: &[Word]) -> Status {
+fn run_words(rt: &HostRuntime, words: &[Word]) -> Status {
     let alloc = rt.alloc();
     let mut script = StdSource::new(rt.reader());
     let mut out = StdSink::new(io::writer(rt));

@@ -14,13 +14,13 @@ returns-in-Edit-clause-meets c =
 
 pub returns-in-Undo-clause-meets : goal.returns-in-Undo-clause-meets
 returns-in-Undo-clause-meets c =
-    if_meets c.undo.result c.args.command.now _ c.args.doc.now c.undo.new.doc c.args.undo.now.edits c.undo.new.undo.edits c.args.jobs.now c.in-Undo.is
-    c.undo.ensures.meets
+    if_meets c.go.result c.args.command.now _ c.args.doc.now c.go.new.doc c.args.undo.now.edits c.go.new.undo.edits c.args.jobs.now c.in-Undo.is
+    c.go.ensures.meets
 
 pub returns-in-Redo-clause-meets : goal.returns-in-Redo-clause-meets
 returns-in-Redo-clause-meets c =
-    if_meets c.redo.result c.args.command.now _ c.args.doc.now c.redo.new.doc c.args.undo.now.edits c.redo.new.undo.edits c.args.jobs.now c.in-Redo.is
-    c.redo.ensures.meets
+    if_meets c.go-in-Redo.result c.args.command.now _ c.args.doc.now c.go-in-Redo.new.doc c.args.undo.now.edits c.go-in-Redo.new.undo.edits c.args.jobs.now c.in-Redo.is
+    c.go-in-Redo.ensures.meets
 
 pub returns-clause-meets : goal.returns-clause-meets
 returns-clause-meets c = λ state is_of same kept.

@@ -1,7 +1,6 @@
-use Rattle.std.proofs.Common.{◌≡◌, false, [], ◌∷◌, arith}
+use Rattle.std.proofs.Common.{◌≡◌, false, arith}
 use Rattle.std.specs.Prelude.{is_err}
-use Rattle.kte_core.specs.Shown.{IsAfter}
-use Rattle.kte_core.proofs.StepLemmas.{IsAfter-more, fits_next, on_success}
+use Rattle.kte_core.proofs.StepLemmas.{one_further, fits_next, on_success}
 use Rattle.kte_core.proofs.edits.apply_all.Goals as goal
 
 pub apply-requires-clause-fits : goal.apply-requires-clause-fits
@@ -18,12 +17,12 @@ loop-done-preserved c =
     let n = c.loop-done.done in
     let p = c.get.result.now in
     let was = c.loop-done.doc in
-    let next = fits_next ps n p was.text c.get.ensures c.loop-done.invariant.fit in
     let fine : is_err c.apply.result ≡ false = cc in
-    let after : IsAfter (p ∷ []) was c.apply.new.doc = on_success c.apply.result _ fine c.apply.ensures.after in
+    let further = one_further ps n p c.args.doc.now was c.apply.new.doc c.get.ensures c.loop-done.invariant.after c.loop-done.invariant.fit
+    (on_success c.apply.result _ fine c.apply.ensures.after) in
     record {
-      count = omega arith;
-      after = IsAfter-more ps n p c.args.doc.now was c.apply.new.doc c.get.ensures c.loop-done.invariant.after after;
-      fit = rw after.text next.rest;
+      count = further.count;
+      after = further.after;
+      fit = further.fit;
       none = λ zero. absurd (omega arith);
     }

@@ -1,7 +1,6 @@
-use Rattle.std.proofs.Common.{◌≡◌, false, [], ◌∷◌, arith}
+use Rattle.std.proofs.Common.{◌≡◌, false, arith}
 use Rattle.std.specs.Prelude.{is_err}
-use Rattle.kte_core.specs.Shown.{IsAfter}
-use Rattle.kte_core.proofs.StepLemmas.{IsAfter-more, fits_next, lines_more, noted_more, on_success}
+use Rattle.kte_core.proofs.StepLemmas.{one_further, fits_next, lines_more, noted_more, on_success}
 use Rattle.kte_core.proofs.edits.apply_noted.Goals as goal
 
 pub apply_and_note-requires-clause-fits : goal.apply_and_note-requires-clause-fits
@@ -18,13 +17,13 @@ loop-done-preserved c =
     let n = c.loop-done.done in
     let p = c.get.result.now in
     let was = c.loop-done.doc in
-    let next = fits_next ps n p was.text c.get.ensures c.loop-done.invariant.fit in
     let fine : is_err c.apply_and_note.result ≡ false = cc in
-    let after : IsAfter (p ∷ []) was c.apply_and_note.new.doc = on_success c.apply_and_note.result _ fine c.apply_and_note.ensures.after in
+    let further = one_further ps n p c.args.doc.now was c.apply_and_note.new.doc c.get.ensures c.loop-done.invariant.after c.loop-done.invariant.fit
+    (on_success c.apply_and_note.result _ fine c.apply_and_note.ensures.after) in
     record {
-      count = omega arith;
-      after = IsAfter-more ps n p c.args.doc.now was c.apply_and_note.new.doc c.get.ensures c.loop-done.invariant.after after;
-      fit = rw after.text next.rest;
+      count = further.count;
+      after = further.after;
+      fit = further.fit;
       lines = lines_more ps n p c.get.ensures c.loop-done.invariant.lines c.apply_and_note.ensures.line;
       noted = noted_more ps n p c.args.doc.now.text was.text c.args.undo.now.edits c.loop-done.undo.edits c.apply_and_note.new.undo.edits
           c.get.ensures c.loop-done.invariant.after.text c.loop-done.invariant.noted

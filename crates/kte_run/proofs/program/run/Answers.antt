@@ -1,5 +1,6 @@
 use Rattle.std.proofs.Common.{◌≡◌, ap, subst}
 use Rattle.kte_words.specs.Words.{FirstMisfit}
+use Rattle.kte_words.specs.declared.words.Words.TheVariants as command
 use Rattle.kte_words.specs.declared.parsing.BadWords.{BadWords}
 use Rattle.kte_run.specs.declared.status.Status.TheVariants as status
 use Rattle.kte_run.proofs.program.run.Goals as goal
@@ -13,3 +14,23 @@ returns-in-Err-clause-bad_words g c = λ at. (
       let same : c.in-Err.fault ≡ bad = cc (c.in-Err.is, other) in
       ap (λ (fault : BadWords). status.BadWords fault.at) same,
 )
+
+pub returns-in-Ok-Edit-clause-recover : goal.returns-in-Ok-Edit-clause-recover
+returns-in-Ok-Edit-clause-recover g c = λ file spells.
+    let other = (c.parse.ensures.command (command.Recover file)).1 spells in
+    absurd (cc (c.in-Ok-Edit.is, c.in-Ok-Edit.field-0-is, other))
+
+pub returns-in-Ok-Recover-clause-edit : goal.returns-in-Ok-Recover-clause-edit
+returns-in-Ok-Recover-clause-edit g c = λ file spells.
+    let other = (c.parse.ensures.command (command.Edit file)).1 spells in
+    absurd (cc (c.in-Ok-Recover.is, c.in-Ok-Recover.field-0-is, other))
+
+pub returns-in-Err-clause-edit : goal.returns-in-Err-clause-edit
+returns-in-Err-clause-edit g c = λ file spells.
+    let other = (c.parse.ensures.command (command.Edit file)).1 spells in
+    absurd (cc (c.in-Err.is, other))
+
+pub returns-in-Err-clause-recover : goal.returns-in-Err-clause-recover
+returns-in-Err-clause-recover g c = λ file spells.
+    let other = (c.parse.ensures.command (command.Recover file)).1 spells in
+    absurd (cc (c.in-Err.is, other))

@@ -1,4 +1,4 @@
-use Rattle.std.proofs.Common.{◌≡◌, ap, ◌∙◌}
+use Rattle.std.proofs.Common.{ap}
 use Rattle.kte_text.specs.declared.loading.Loaded.{Loaded}
 use Rattle.kte_core.proofs.ReplayLemmas.{loaded_sound}
 use Rattle.kte_core.proofs.session.Core.line_end.Goals as goal
