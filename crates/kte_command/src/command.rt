@@ -2,10 +2,12 @@ ghost use Rattle.std.specs.Prelude.{◌≡◌, IfOk};
 
 use kte_edit::Change;
 use kte_find::Rule;
-use kte_place::{Empty, Expand, Span};
+use kte_place::{Empty, Expand, Place, Span};
+use kte_search::Query;
 use std::alloc::{AllocError, Global};
 
-/// A command of a script. Lines and columns of its spans are at most 2^30.
+/// A command of a script. Lines and columns of its spans and places are at most 2^30, and what it
+/// looks for has at least one unit.
 #[derive(Debug, Drop)]
 pub enum Command {
     /// Makes the primitives of a change, which are none where it would insert or remove nothing.
@@ -51,6 +53,29 @@ pub enum Command {
         span: Span,
         expand: Expand,
         empty: Empty,
+    },
+    /// Makes a fold: a range that hides the lines after its first. It gets the next number of a
+    /// range.
+    Fold {
+        span: Span,
+    },
+    /// Removes a fold.
+    Unfold {
+        id: u64,
+    },
+    /// Asks for the first match that starts at or after a place.
+    Find {
+        from: Place,
+        query: Query,
+    },
+    /// Asks for the match that starts last among those that end at or before a place.
+    FindBack {
+        before: Place,
+        query: Query,
+    },
+    /// Asks for the matches from left to right.
+    All {
+        query: Query,
     },
     /// Posts a job: to look in the text for what a rule finds.
     Check {
@@ -104,6 +129,19 @@ impl Command {
                 span: *span,
                 expand: *expand,
                 empty: *empty,
+            }),
+            Command::Fold { span } => Ok(Command::Fold { span: *span }),
+            Command::Unfold { id } => Ok(Command::Unfold { id: *id }),
+            Command::Find { from, query } => Ok(Command::Find {
+                from: *from,
+                query: query.copy(alloc)?,
+            }),
+            Command::FindBack { before, query } => Ok(Command::FindBack {
+                before: *before,
+                query: query.copy(alloc)?,
+            }),
+            Command::All { query } => Ok(Command::All {
+                query: query.copy(alloc)?,
             }),
             Command::Check { rule } => Ok(Command::Check {
                 rule: rule.copy(alloc)?,

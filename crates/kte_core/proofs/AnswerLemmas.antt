@@ -3,11 +3,12 @@ use Rattle.std.proofs.Common.{◌≡◌, ℕ, ◌+◌, ◌-◌, ◌≤◌, Bool,
 use Rattle.kte_doc.specs.Documents.{Document}
 use Rattle.kte_undo.specs.Groups.{Kept}
 use Rattle.kte_jobs.specs.Job.{Job}
+use Rattle.kte_fold.specs.Tree.{Outline}
 use Rattle.kte_command.specs.declared.command.Command.{Command}
 use Rattle.kte_core.specs.State.{State, Reaction, refused, replied}
 use Rattle.kte_core.specs.Kept.{owed, is_kept, kept_after}
 use Rattle.kte_core.specs.React.{react, react_by, react_command, cut_at, CutsBetween}
-use Rattle.kte_core.specs.Shown.{Answers, Gives, Meets, Reacts, Shows, react_open}
+use Rattle.kte_core.specs.Shown.{AreFoldsOf, Answers, Gives, Meets, Reacts, Shows, react_open}
 use Rattle.kte_core.specs.declared.event.Step.{Step}
 use Rattle.kte_core.specs.declared.present.Present.{Present}
 use Rattle.kte_core.specs.declared.reply.Reply.{Reply}
@@ -51,10 +52,10 @@ same_open state seat command None not_closed =
     ap (λ (b : Bool). if b then refused state refusal.Closed else react_command state command) (sym not_closed)
 same_open state seat command (Some n) not_closed = refl
 
-pub Answers-open : (state : State) (seat : ℕ) (command : Command) (step : Step) (present : Present) (doc : Document) (undo : Kept) (jobs : List Job)
-    → Shows state present → present.is_closed ≡ false → Meets state command step doc undo.edits jobs
-    → Answers state seat (Cmd command) step (record present { doc = doc; undo = undo; jobs = jobs })
-Answers-open state seat command step present doc undo jobs shows still_open meets =
+pub Answers-open : (state : State) (seat : ℕ) (command : Command) (step : Step) (present : Present) (doc : Document) (undo : Kept) (jobs : List Job) (folds : Outline)
+    → Shows state present → present.is_closed ≡ false → Meets state command step doc undo.edits jobs → AreFoldsOf doc folds
+    → Answers state seat (Cmd command) step (record present { doc = doc; undo = undo; jobs = jobs; folds = folds })
+Answers-open state seat command step present doc undo jobs folds shows still_open meets are =
     let not_closed : state.closed ≡ false = sym shows.closed ∙ still_open in
     let is = same_open state seat command (cut_at step.reply) not_closed in
     record {
@@ -69,6 +70,7 @@ Answers-open state seat command step present doc undo jobs shows still_open meet
         document = meets.document;
         edits = meets.edits;
         jobs = meets.jobs_now;
+        folds = are;
         closed = shows.closed ∙ sym meets.closed;
       };
     }

@@ -1,8 +1,9 @@
 -- Worked examples of the definitions.
-use Rattle.std.proofs.Common.{◌≡◌, ℕ, true, false, List, [], ◌∷◌, Some, None, refl}
+use Rattle.std.proofs.Common.{◌≡◌, ℕ, Bool, true, false, List, [], ◌∷◌, length, Some, None, refl, ap, sym, ◌∙◌}
 use Rattle.std.specs.Prelude.{codes}
 use Rattle.std.specs.Ordering.{nat_cmp}
-use Rattle.std.specs.FinMap.{get, empty, get-empty}
+use Rattle.std.specs.Cmp.{nat_cmp_total}
+use Rattle.std.specs.FinMap.{get, insert, entries, empty, put as put_in, get-empty, len-empty, len-entries, entries-insert}
 use Rattle.kte_text.specs.Saving.{bytes_of}
 use Rattle.kte_text.specs.declared.loading.Eol.TheVariants.{CrLf, Lf}
 use Rattle.kte_text.specs.declared.primitive.Primitive.TheVariants.{Insert, Wrap, Unwrap, Remove}
@@ -11,6 +12,8 @@ use Rattle.kte_place.specs.Ends.{Ends}
 use Rattle.kte_place.specs.declared.place.Place.{Place}
 use Rattle.kte_place.specs.declared.span.Empty.{Empty}
 use Rattle.kte_place.specs.declared.span.Empty.TheVariants.{Allow, Void}
+use Rattle.kte_fold.specs.declared.refused.FoldRefused.TheVariants.{OutOfText, EmptySpan, Crosses}
+use Rattle.kte_search.specs.declared.query.Query.{Query}
 use Rattle.kte_find.specs.declared.rule.Rule.TheVariants.{Blanks, Pairs}
 use Rattle.kte_history.specs.declared.lock.Owner.TheVariants.{Job}
 use Rattle.kte_jobs.specs.declared.job.JobState.TheVariants.{Done}
@@ -19,7 +22,8 @@ use Rattle.kte_undo.specs.Groups.{Edits}
 use Rattle.kte_undo.specs.declared.step.Step.TheVariants as Step
 use Rattle.kte_core.specs.Editing.{saved_form, text_of}
 use Rattle.kte_core.specs.Kept.{owed}
-use Rattle.kte_core.specs.State.{State, Reaction, refused, stands}
+use Rattle.kte_core.specs.State.{Range, State, Reaction, refused, stands}
+use Rattle.kte_core.specs.Folds.{fold_now}
 use Rattle.kte_core.specs.Jobs.{found_at}
 use Rattle.kte_core.proofs.RangeLemmas.{get_here}
 use Rattle.kte_core.specs.React.{react, react_cut}
@@ -27,11 +31,12 @@ use Rattle.kte_core.specs.Replay.{beginning, transactions}
 use Rattle.kte_core.specs.declared.event.Event.{Event}
 use Rattle.kte_core.specs.declared.reply.Reply.{Reply}
 use Rattle.kte_core.specs.declared.reply.Reply.TheVariants as reply
-use Rattle.kte_core.specs.declared.reply.Refusal.TheVariants.{Misfit, NotOpen, StillOpen, Nothing, RevisionsFull, NoRange, NotLocked, NotOwned, NoJob, NotTaken, Closed}
+use Rattle.kte_core.specs.declared.reply.Refusal.TheVariants as refusal
+use Rattle.kte_core.specs.declared.reply.Refusal.TheVariants.{Misfit, NotOpen, StillOpen, Nothing, RevisionsFull, NoRange, NoFold, NoMatch, NotLocked, NotOwned, NoJob, NotTaken, Closed}
 use Rattle.kte_core.specs.declared.request.Request.{Request}
 use Rattle.kte_core.specs.declared.request.Request.TheVariants.{Cmd, Close, Take, Deliver, GiveBack, Outcome}
 use Rattle.kte_core.specs.declared.request.OutsideCall.TheVariants.{Save as Saved}
-use Rattle.kte_command.specs.declared.command.Command.TheVariants.{Edit, Begin, End, Undo, Redo, MakeRange, SetRange, DropRange, ShowRange, Lock, Unlock, Land, Check, Sync, Save}
+use Rattle.kte_command.specs.declared.command.Command.TheVariants.{Edit, Begin, End, Undo, Redo, MakeRange, SetRange, DropRange, ShowRange, Lock, Unlock, Land, Fold, Unfold, Find, FindBack, All, Check, Sync, Save}
 
 -- `hello` and an empty line, where two revisions can be made
 abbrev hello : State
@@ -119,6 +124,82 @@ drop-none = rw (get-empty nat_cmp 7) refl
 
 show-none : asked hello (Cmd (ShowRange 7)) ≡ refused hello (NoRange 7)
 show-none = rw (get-empty nat_cmp 7) refl
+
+-- folds draw from the numbers of the ranges, and cross no other
+
+abbrev four : State
+four = beginning (record { text = codes "a" ∷ codes "b" ∷ codes "c" ∷ codes "d" ∷ []; eol = Lf; bom = false }) 9
+
+abbrev folds : Ends → Request
+folds span = Cmd (Fold span)
+
+-- a state without ranges has no folds
+no_entries : entries (empty {X = Range} {R = nat_cmp}) ≡ []
+no_entries = by_length (entries empty) (sym (len-entries empty) ∙ len-empty nat_cmp Range) where
+  by_length : (es : List (ℕ × Range)) → length es ≡ 0 → es ≡ []
+  by_length [] is = refl
+  by_length (e ∷ es) is = absurd (cc)
+
+fold_refused-out : (asked four (folds (span 0 1 4 0))).reply ≡ reply.Refused (refusal.Fold OutOfText)
+fold_refused-out = refl
+
+fold_refused-empty : (asked four (folds (span 1 1 1 1))).reply ≡ reply.Refused (refusal.Fold EmptySpan)
+fold_refused-empty = refl
+
+folded-reply : (asked four (folds (span 0 1 2 0))).reply ≡ reply.Range 1 (Some (span 0 1 2 0))
+folded-reply = rw no_entries refl
+
+unfold-none : asked four (Cmd (Unfold 1)) ≡ refused four (NoFold 1)
+unfold-none = rw (get-empty nat_cmp 1) refl
+
+-- the state with this fold
+abbrev first_fold : Range
+first_fold = fold_now four.editing (span 0 1 2 0)
+
+abbrev folded : State
+folded = record four { ranges = insert empty 1 first_fold; next_id = 2 }
+
+folded-after : (asked four (folds (span 0 1 2 0))).after ≡ folded
+folded-after = rw no_entries refl
+
+one_entry : entries folded.ranges ≡ (1, first_fold) ∷ []
+one_entry = entries-insert nat_cmp_total empty 1 first_fold ∙ ap (put_in nat_cmp 1 first_fold) no_entries
+
+crossing : asked folded (folds (span 1 0 3 1)) ≡ refused folded (refusal.Fold (Crosses 1))
+crossing = rw one_entry (rw (get_here empty 1 (span 0 1 2 0)) refl)
+
+unfolded : (asked folded (Cmd (Unfold 1))).reply ≡ reply.Dropped 1
+unfolded = rw (get_here empty 1 first_fold) refl
+
+-- a fold is no range for the commands on ranges
+set_fold : asked folded (Cmd (SetRange 1 (span 0 0 0 1))) ≡ refused folded (NoRange 1)
+set_fold = rw (get_here empty 1 first_fold) refl
+
+drop_fold : asked folded (Cmd (DropRange 1)) ≡ refused folded (NoRange 1)
+drop_fold = rw (get_here empty 1 first_fold) refl
+
+show_fold : asked folded (Cmd (ShowRange 1)) ≡ refused folded (NoRange 1)
+show_fold = rw (get_here empty 1 first_fold) refl
+
+-- searches
+
+abbrev food : State
+food = beginning (record { text = codes "foo Foo food" ∷ []; eol = Lf; bom = false }) 9
+
+abbrev foo : Bool → Bool → Query
+foo fold_case whole = record { pattern = codes "foo"; fold_case = fold_case; whole = whole }
+
+all : (asked food (Cmd (All (foo true true)))).reply ≡ reply.Found (span 0 0 0 3 ∷ span 0 4 0 7 ∷ [])
+all = refl
+
+find : (asked food (Cmd (Find (place 0 1) (foo false false)))).reply ≡ reply.Found (span 0 8 0 11 ∷ [])
+find = refl
+
+find-back : (asked food (Cmd (FindBack (place 0 8) (foo true false)))).reply ≡ reply.Found (span 0 4 0 7 ∷ [])
+find-back = refl
+
+no_match : asked food (Cmd (Find (place 0 9) (foo false false))) ≡ refused food NoMatch
+no_match = refl
 
 -- a revision that is locked twice stays locked until it is unlocked twice
 

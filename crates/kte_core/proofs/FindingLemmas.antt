@@ -23,6 +23,7 @@ use Rattle.kte_core.specs.Jobs.{found_at, with_ranges, taken_at, deliver}
 use Rattle.kte_core.specs.Shown.{IsOf, Shows, Gives, MakesFindings, range_of}
 use Rattle.kte_core.specs.declared.present.Present.{Present}
 use Rattle.kte_core.specs.declared.reply.Reply.TheVariants as reply
+use Rattle.kte_core.proofs.FoldKeepLemmas.{folds-locked, folds-made}
 use Rattle.kte_core.proofs.RangeLemmas.{get_here}
 
 -- another number is told apart
@@ -99,13 +100,13 @@ pub Gives-delivered : (state : State) (present : Present) (seat job revision : �
     → later ≡ record made { locks = unlocked made.locks (owner.Job job) revision; kept = later.kept } → KeepsTrail made later
     → jobs ≡ with_state present.jobs job Done → first ≡ present.doc.next → count ≡ length findings
     → Gives (deliver state job findings (taken_at state.jobs seat job)) (reply.Delivered job first count)
-    (record { doc = later; undo = present.undo; jobs = jobs; is_closed = present.is_closed })
+    (record present { doc = later; jobs = jobs })
 Gives-delivered state present seat job revision findings made later jobs first count shows taken makes released keeps finished at many =
     let taken_now : Some revision ≡ taken_at state.jobs seat job =
     sym taken ∙ ap (λ (js : List Job). taken_at js seat job) shows.jobs in
     let document = shows.document in
     subst (λ (o : Option ℕ). Gives (deliver state job findings o) (reply.Delivered job first count)
-    (record { doc = later; undo = present.undo; jobs = jobs; is_closed = present.is_closed })) taken_now (record {
+    (record present { doc = later; jobs = jobs })) taken_now (record {
       reply = ap (λ (n : ℕ). reply.Delivered job n count) (at ∙ document.next_id) ∙ ap (reply.Delivered job state.next_id) many;
       made = refl;
       uncut = refl;
@@ -123,6 +124,8 @@ Gives-delivered state present seat job revision findings made later jobs first c
         };
         edits = shows.edits;
         jobs = finished ∙ ap (λ (js : List Job). with_state js job Done) shows.jobs;
+        folds = folds-locked made later (unlocked made.locks (owner.Job job) revision) later.kept released present.folds
+            (folds-made _ _ present.doc made job revision findings document.came makes present.folds shows.folds);
         closed = shows.closed;
       };
     })

@@ -14,7 +14,9 @@ use Rattle.kte_undo.specs.Groups.{Edits, last_of, before_last, if_any, begun, cl
 use Rattle.kte_undo.specs.declared.step.Step.{Step}
 use Rattle.kte_undo.proofs.InverseLemmas.{undoes, redoes, steps_along-append}
 use Rattle.kte_core.specs.Editing.{noted_all, noted_change}
-use Rattle.kte_core.specs.Groups.{Leads, GroupsFit, IsFilled, steps_in}
+use Rattle.kte_core.specs.Groups.{Leads, GroupsFit, IsFilled, steps_in, group_steps, groups_to, gone}
+use Rattle.kte_core.specs.declared.edits.Direction.{Direction}
+use Rattle.kte_core.specs.declared.edits.Direction.TheVariants.{Back, Forth}
 
 -- a text is a text after primitives that fit it in turn
 pub IsText-after_all : (ps : List Primitive) (text : List (List ℕ)) → IsText text → All HasLine ps → FitInTurn ps text
@@ -325,11 +327,11 @@ undo_of-last group n within =
     length-reverse (map back_of (drop k group)) ∙ length-map (drop k group) back_of ∙ length-drop k group ∙ omega arith in
     sym (ap (take n) whole ∙ take_at back front n long)
 
--- so many steps of the last group are undone
-pub fit-gone_back : (edits : Edits) (text : List (List ℕ)) (n : ℕ) → edits.depth ≡ 0 → 0 < length edits.undo → 0 < n
-    → n ≤ length (last_of edits.undo) → GroupsFit edits text
-    → GroupsFit (gone_back n edits) (after_all (take n (undo_of (last_of edits.undo))) text)
-fit-gone_back edits text n shut some one within fit =
+-- so many steps of the last group are undone, or redone
+pub fit-gone : (direction : Direction) (edits : Edits) (text : List (List ℕ)) (n : ℕ) → edits.depth ≡ 0 → 0 < length (groups_to direction edits)
+    → 0 < n → n ≤ length (last_of (groups_to direction edits)) → GroupsFit edits text
+    → GroupsFit (gone direction n edits) (after_all (take n (group_steps direction edits)) text)
+fit-gone Back edits text n shut some one within fit =
     let out = outside edits text shut fit in
     let groups = before_last edits.undo in
     let group = last_of edits.undo in
@@ -355,12 +357,7 @@ fit-gone_back edits text n shut some one within fit =
       redo_filled = All-append IsFilled edits.redo (moved ∷ []) out.redo_filled (filled-one moved long);
       none = out.none;
     }))
-
--- so many steps of the last group are redone
-pub fit-gone_forth : (edits : Edits) (text : List (List ℕ)) (n : ℕ) → edits.depth ≡ 0 → 0 < length edits.redo → 0 < n
-    → n ≤ length (last_of edits.redo) → GroupsFit edits text
-    → GroupsFit (gone_forth n edits) (after_all (take n (redo_of (last_of edits.redo))) text)
-fit-gone_forth edits text n shut some one within fit =
+fit-gone Forth edits text n shut some one within fit =
     let out = outside edits text shut fit in
     let groups = before_last edits.redo in
     let group = last_of edits.redo in

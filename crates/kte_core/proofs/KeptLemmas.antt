@@ -23,7 +23,8 @@ use Rattle.kte_core.specs.JobsInWords.{JobChange, Grows}
 use Rattle.kte_core.specs.JobsInWords.JobChange.{stays, closes, posts, takes, finishes, returns}
 use Rattle.kte_core.specs.declared.event.Event.{Event}
 use Rattle.kte_core.specs.declared.request.Request.{Request}
-use Rattle.kte_core.proofs.CaseLemmas.{unlocked_job, changes, grows}
+use Rattle.kte_core.proofs.CaseLemmas.{changes, grows}
+use Rattle.kte_core.proofs.LockLemmas.{unlocked_job}
 use Rattle.kte_core.proofs.OneJobLemmas.{state_of-same, taken_state, waiting_state, taken-other, taken-posted}
 
 pub keeps-beginning : (loaded : Loaded) (limit : ℕ) → KeepsRevisions (beginning loaded limit)

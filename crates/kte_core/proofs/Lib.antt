@@ -1,4 +1,7 @@
 mod Examples
+pub mod FoldMapLemmas
+pub mod FoldKeepLemmas
+pub mod FoundLemmas
 pub mod LockLemmas
 pub mod JobLemmas
 pub mod RangeLemmas
@@ -25,3 +28,6 @@ pub mod CountLemmas
 pub mod JournalLemmas
 pub mod FindingPropLemmas
 pub mod PropLemmas
+pub mod SearchLemmas
+pub mod FoldStepLemmas
+pub mod FoldLemmas

@@ -22,7 +22,7 @@ use Rattle.kte_core.specs.State.{State, Reaction}
 use Rattle.kte_core.specs.React.{react, react_by, cut_at, CutsBetween}
 use Rattle.kte_core.specs.Requests.{IsAllowed}
 use Rattle.kte_core.specs.Replay.{Session, beginning, present, replay, came_of, after_event, transactions, primitives_in, Answered}
-use Rattle.kte_core.specs.Shown.{range_of, IsOf, Answers, Reacts, Shows}
+use Rattle.kte_core.specs.Shown.{range_of, IsOf, AreFoldsOf, Answers, Reacts, Shows}
 use Rattle.kte_core.specs.Jobs.{AreLocked, KeepsRevisions, taken_at}
 use Rattle.kte_core.specs.Kept.{owed, kept_after}
 use Rattle.kte_jobs.specs.Job.{Job}
@@ -33,6 +33,7 @@ use Rattle.kte_core.specs.declared.present.Present.{Present}
 use Rattle.kte_core.specs.declared.event.Event.{Event}
 use Rattle.kte_core.specs.declared.event.Step.{Step}
 use Rattle.kte_core.specs.declared.reply.Reply.{Reply}
+use Rattle.kte_core.proofs.FoldKeepLemmas.{folds-none}
 use Rattle.kte_core.proofs.GroupLemmas.{Leads-none}
 use Rattle.kte_core.proofs.CaseLemmas.{event_grows}
 use Rattle.kte_core.proofs.JournalLemmas.{replay-append, follows-replay, Answered-one_more}
@@ -53,8 +54,8 @@ transactions-push state (first ∷ events) event =
 pub IsSound-new : (core : Inside) → core.journal.events ≡ [] → IsText core.loaded.text → CameBy core.loaded.text [] core.present.doc
     → core.present.doc.limit ≡ core.limit → core.present.doc.ranges ≡ empty → core.present.doc.next ≡ 1 → core.present.doc.locks ≡ []
     → core.present.undo.edits ≡ record { depth = 0; current = []; undo = []; redo = [] } → core.present.jobs ≡ []
-    → core.present.is_closed ≡ false → core.kept ≡ 1 → core.kept ≤ core.journal.room → IsSound core
-IsSound-new core none whole came limit ranges next_id locks edits jobs closed kept room =
+    → core.present.folds.numbers ≡ [] → core.present.is_closed ≡ false → core.kept ≡ 1 → core.kept ≤ core.journal.room → IsSound core
+IsSound-new core none whole came limit ranges next_id locks edits jobs folds closed kept room =
     let text = came.text in
     let start = Leads-none core.loaded.text whole in
     let fit : GroupsFit (record { depth = 0; current = []; undo = []; redo = [] }) core.loaded.text = record {
@@ -79,6 +80,7 @@ IsSound-new core none whole came limit ranges next_id locks edits jobs closed ke
         };
         edits = edits;
         jobs = jobs;
+        folds = folds-none core.present.doc core.present.folds ranges folds;
         closed = closed;
       });
       fit = subst (λ (e : Edits). GroupsFit e core.present.doc.text) (sym edits) (subst (λ (t : List (List ℕ)). GroupsFit (record { depth = 0; current = []; undo = []; redo = [] }) t) (sym text) fit);
@@ -187,9 +189,10 @@ locked_sound core sound = λ job seat revision taken.
 
 -- a core that holds the same stays sound, with more room
 pub IsSound-again : (core later : Inside) → IsSound core → later.loaded ≡ core.loaded → later.limit ≡ core.limit
-    → later.present ≡ record core.present { undo = later.present.undo } → later.present.undo.edits ≡ core.present.undo.edits
+    → later.present ≡ record core.present { undo = later.present.undo; folds = later.present.folds }
+    → later.present.undo.edits ≡ core.present.undo.edits → AreFoldsOf later.present.doc later.present.folds
     → later.kept ≡ core.kept → later.journal.events ≡ core.journal.events → later.kept ≤ later.journal.room → IsSound later
-IsSound-again core later sound loaded limit held edits kept events room =
+IsSound-again core later sound loaded limit held edits folds kept events room =
     let first : beginning core.loaded core.limit ≡ beginning later.loaded later.limit =
     ap (λ (l : Loaded). beginning l core.limit) (sym loaded) ∙ ap (beginning later.loaded) (sym limit) in
     let now : present (session_of core) ≡ present (session_of later) =
@@ -200,6 +203,7 @@ IsSound-again core later sound loaded limit held edits kept events room =
         document = subst (λ (d : Document). IsOf (present (session_of core)) d) (sym doc) sound.shows.document;
         edits = edits ∙ sound.shows.edits;
         jobs = ap (λ (p : Present). p.jobs) held ∙ sound.shows.jobs;
+        folds = folds;
         closed = ap (λ (p : Present). p.is_closed) held ∙ sound.shows.closed;
       });
       fit = subst (λ (e : Edits). GroupsFit e later.present.doc.text) (sym edits)

@@ -4,6 +4,7 @@ use Rattle.std.specs.Option.{option_map}
 use Rattle.std.specs.FinMap.{get}
 use Rattle.kte_text.specs.declared.primitive.Primitive.{Primitive}
 use Rattle.kte_place.specs.Ends.{Ends}
+use Rattle.kte_place.specs.declared.entry.Entry.{Entry}
 use Rattle.kte_place.specs.declared.span.Expand.{Expand}
 use Rattle.kte_place.specs.declared.span.Empty.{Empty}
 use Rattle.kte_history.specs.declared.lock.Lock as lock_type
@@ -21,21 +22,26 @@ use Rattle.kte_core.specs.declared.reply.Reply.TheVariants as reply
 use Rattle.kte_core.specs.declared.reply.Refusal.TheVariants as refusal
 use Rattle.kte_command.specs.declared.command.Command.TheVariants.{Lock, Unlock, Land}
 
+-- the document of a state with other locks
+with_locks : (state : State) (document later : Document) (locks now : List lock_type.Lock) (kept : List Entry) → IsOf state document
+    → KeepsTrail document later → later ≡ record document { locks = locks; kept = kept } → locks ≡ now → IsOf (record state { locks = now }) later
+with_locks state document later locks now kept is_of keeps new same = record {
+  came = keeps _ _ is_of.came;
+  limit = ap (λ (d : Document). d.limit) new ∙ is_of.limit;
+  ranges = λ id. ap (λ (d : Document). option_map range_of (get d.ranges id)) new ∙ is_of.ranges id;
+  next_id = ap (λ (d : Document). d.next) new ∙ is_of.next_id;
+  locks = ap (λ (d : Document). d.locks) new ∙ same;
+}
+
 pub Replies-lock : (state : State) (document later : Document) → IsOf state document → KeepsTrail document later
     → later ≡ record document { locks = document.locks ++ record { owner = Editor; revision = document.revision } ∷ [] }
     → Replies (react_command state Lock) (reply.Locked document.revision) later
 Replies-lock state document later is_of keeps new = record {
   reply = ap (λ (revision : ℕ). reply.Locked revision) is_of.came.revision;
   made = refl;
-  leads = record {
-    came = keeps _ _ is_of.came;
-    limit = ap (λ (d : Document). d.limit) new ∙ is_of.limit;
-    ranges = λ id. ap (λ (d : Document). option_map range_of (get d.ranges id)) new ∙ is_of.ranges id;
-    next_id = ap (λ (d : Document). d.next) new ∙ is_of.next_id;
-    locks = ap (λ (d : Document). d.locks) new
-        ∙ ap (λ (locks : List lock_type.Lock). locks ++ record { owner = Editor; revision = document.revision } ∷ []) is_of.locks
-        ∙ ap (λ (revision : ℕ). state.locks ++ record { owner = Editor; revision = revision } ∷ []) is_of.came.revision;
-  };
+  leads = with_locks state document later _ _ document.kept is_of keeps new
+      (ap (λ (locks : List lock_type.Lock). locks ++ record { owner = Editor; revision = document.revision } ∷ []) is_of.locks
+      ∙ ap (λ (revision : ℕ). state.locks ++ record { owner = Editor; revision = revision } ∷ []) is_of.came.revision);
 }
 
 pub Replies-unlock : (state : State) (document later : Document) (revision : ℕ) → IsOf state document → KeepsTrail document later
@@ -50,14 +56,7 @@ Replies-unlock state document later revision is_of keeps owned new =
     subst (λ (b : Bool). Replies (unlock state revision b) (reply.Unlocked revision) later) has (record {
       reply = refl;
       made = refl;
-      leads = record {
-        came = keeps _ _ is_of.came;
-        limit = ap (λ (d : Document). d.limit) new ∙ is_of.limit;
-        ranges = λ id. ap (λ (d : Document). option_map range_of (get d.ranges id)) new ∙ is_of.ranges id;
-        next_id = ap (λ (d : Document). d.next) new ∙ is_of.next_id;
-        locks = ap (λ (d : Document). d.locks) new
-            ∙ ap (λ (locks : List lock_type.Lock). unlocked locks Editor revision) is_of.locks;
-      };
+      leads = with_locks state document later _ _ _ is_of keeps new (ap (λ (locks : List lock_type.Lock). unlocked locks Editor revision) is_of.locks);
     })
 
 pub Replies-not_owned : (state : State) (document later : Document) (revision : ℕ) → IsOf state document

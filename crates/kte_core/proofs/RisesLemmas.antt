@@ -1,25 +1,20 @@
 -- For how many events there must be room after one request.
-use Rattle.std.proofs.Common.{◌≡◌, ℕ, ◌+◌, ◌-◌, ◌≤◌, Bool, true, false, not, List, [], ◌∷◌, ◌++◌, length, Option, Some, None, if◌then◌else◌, refl, ap, sym, arith}
-use Rattle.std.specs.FinMap.{get}
+use Rattle.std.proofs.Common.{◌≡◌, ℕ, ◌+◌, ◌-◌, ◌≤◌, Bool, true, false, not, List, [], ◌∷◌, ◌++◌, length, Option, Some, None, if◌then◌else◌, refl, ap, sym, ◌∙◌, arith}
 use Rattle.std.specs.Prelude.{is_some}
 use Rattle.std.proofs.lemmas.List.Sums.{sum_by_push}
 use Rattle.kte_place.specs.Ends.{Ends}
-use Rattle.kte_place.specs.declared.span.Expand.{Expand}
-use Rattle.kte_place.specs.declared.span.Empty.{Empty}
-use Rattle.kte_history.specs.declared.lock.Owner.TheVariants as owner
-use Rattle.kte_history.specs.Locks.{has_lock}
 use Rattle.kte_edit.specs.Steps.{steps_of}
 use Rattle.kte_jobs.specs.declared.job.JobState.{JobState}
 use Rattle.kte_jobs.specs.declared.job.JobState.TheVariants.{Waiting, Taken, Done}
 use Rattle.kte_jobs.specs.Job.{Job, is_taken}
 use Rattle.kte_jobs.specs.Jobs.{state_of, with_state, least_waiting}
 use Rattle.kte_command.specs.declared.command.Command.{Command}
-use Rattle.kte_command.specs.declared.command.Command.TheVariants.{Edit, Begin, End, Undo, Redo, MakeRange, SetRange, DropRange, ShowRange, Lock, Unlock, Land, Check, Sync, Save}
-use Rattle.kte_core.specs.Editing.{EditReaction, text_of, revision_of, judged, not_open, still_open, closing, changed, undone, redone, undo_steps, redo_steps, change_refusal, group_refusal, cut_reaction}
-use Rattle.kte_core.specs.State.{Range, State, Reaction, edited}
+use Rattle.kte_command.specs.declared.command.Command.TheVariants.{Edit, Begin, End, Undo, Redo, Check}
+use Rattle.kte_core.specs.Editing.{EditReaction, text_of, revision_of, judged, not_open, closing, changed, undone, redone, undo_steps, redo_steps, change_refusal, group_refusal, cut_reaction}
+use Rattle.kte_core.specs.State.{State, Reaction, edited}
 use Rattle.kte_core.specs.Jobs.{taken_at, take_job, deliver, give_back}
 use Rattle.kte_core.specs.Kept.{owed, count_taken, kept_after, is_kept}
-use Rattle.kte_core.specs.React.{react, react_by, react_command, set_range, drop_range, show_range, unlock, land, can_land_from, ask_outside, unless_closed, close}
+use Rattle.kte_core.specs.React.{react, react_by, react_command, unless_closed, close}
 use Rattle.kte_core.specs.declared.reply.Reply.{Reply}
 use Rattle.kte_core.specs.declared.reply.Reply.TheVariants as reply
 use Rattle.kte_core.specs.declared.reply.Refusal.{Refusal}
@@ -27,7 +22,7 @@ use Rattle.kte_core.specs.declared.request.Request.{Request}
 use Rattle.kte_core.specs.declared.request.Request.TheVariants.{Cmd, Close, Take, Deliver, GiveBack, Outcome}
 use Rattle.kte_core.proofs.JobLemmas.{one_if, count-set, taken_in_all, count_within}
 use Rattle.kte_core.proofs.OneJobLemmas.{taken_state, waiting_state}
-use Rattle.kte_core.proofs.TransactionLemmas.{unless, unless_then}
+use Rattle.kte_core.proofs.TransactionLemmas.{IsStill, still, unless, unless_then}
 
 -- there must be room after a reaction for as many events as its reply says
 abbrev pub Owes : State → Reaction → Type 0
@@ -38,30 +33,11 @@ owes-judged : (judgement : Option Refusal) (state : State) (made : EditReaction)
 owes-judged None state made plain = sym (plain (owed state))
 owes-judged (Some cause) state made plain = refl
 
-owes-set : (state : State) (id : ℕ) (span : Ends) (found : Option Range) → Owes state (set_range state id span found)
-owes-set state id span None = refl
-owes-set state id span (Some range) = refl
-
-owes-drop : (state : State) (id : ℕ) (found : Option Range) → Owes state (drop_range state id found)
-owes-drop state id None = refl
-owes-drop state id (Some range) = refl
-
-owes-show : (state : State) (id : ℕ) (found : Option Range) → Owes state (show_range state id found)
-owes-show state id None = refl
-owes-show state id (Some range) = refl
-
-owes-unlock : (state : State) (revision : ℕ) (owned : Bool) → Owes state (unlock state revision owned)
-owes-unlock state revision true = refl
-owes-unlock state revision false = refl
-
-owes-land : (state : State) (revision : ℕ) (span : Ends) (expand : Expand) (empty : Empty) (may : Bool)
-    → Owes state (land state revision span expand empty may)
-owes-land state revision span expand empty true = refl
-owes-land state revision span expand empty false = refl
-
-owes-outside : (state : State) (cause : Option Refusal) → Owes state (ask_outside state cause)
-owes-outside state None = refl
-owes-outside state (Some refusal) = refl
+owes-still : (state : State) (reaction : Reaction) → IsStill state reaction → Owes state reaction
+owes-still state reaction still =
+    ap (λ (b : Bool). (if b then 0 else 1) + count_taken reaction.after.jobs) still.closed
+    ∙ ap (λ (jobs : List Job). (if state.closed then 0 else 1) + count_taken jobs) still.jobs
+    ∙ sym (still.kept (owed state))
 
 -- a job that is posted waits
 count-posted : (jobs : List Job) (job : Job) → is_taken job.state ≡ false → count_taken (jobs ++ job ∷ []) ≡ count_taken jobs
@@ -81,17 +57,9 @@ owes-react state Undo =
 owes-react state Redo =
     owes-judged (group_refusal state.editing state.editing.edits.redo (redo_steps state.editing)) state
     (redone reply.Edited state.editing (redo_steps state.editing)) (λ kept. refl)
-owes-react state (MakeRange span expand empty) = refl
-owes-react state (SetRange id span) = owes-set state id span (get state.ranges id)
-owes-react state (DropRange id) = owes-drop state id (get state.ranges id)
-owes-react state (ShowRange id) = owes-show state id (get state.ranges id)
-owes-react state Lock = refl
-owes-react state (Unlock revision) = owes-unlock state revision (has_lock state.locks owner.Editor revision)
-owes-react state (Land revision span expand empty) = owes-land state revision span expand empty (can_land_from state revision)
 owes-react state (Check rule) =
     ap (λ (n : ℕ). (if state.closed then 0 else 1) + n) (count-posted state.jobs (record { rule = rule; state = Waiting }) refl)
-owes-react state Sync = owes-outside state (still_open state.editing.edits.depth)
-owes-react state Save = owes-outside state (still_open state.editing.edits.depth)
+owes-react state command = owes-still state _ (still state command tt)
 
 -- .. also where memory runs out
 owes-cut : (state : State) (command : Command) (n : ℕ) → Owes state (edited state (cut_reaction state.editing command n))
@@ -177,6 +145,7 @@ kept_within kept (reply.Dropped id) = omega arith
 kept_within kept (reply.Locked revision) = omega arith
 kept_within kept (reply.Unlocked revision) = omega arith
 kept_within kept (reply.Landed span) = omega arith
+kept_within kept (reply.Found spans) = omega arith
 kept_within kept (reply.Posted job) = omega arith
 kept_within kept reply.Asked = omega arith
 kept_within kept (reply.Took job revision) = omega arith

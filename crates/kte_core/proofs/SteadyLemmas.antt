@@ -1,7 +1,6 @@
 -- In every session the groups fit the text, and the primitives are those of its transactions.
 use Rattle.std.proofs.Common.{◌≡◌, ℕ, zero, suc, ◌+◌, ◌-◌, ◌<◌, ◌≤◌, ◌==◌, not, List, [], ◌∷◌, ◌++◌, length, take, All, Option, None, Some, refl, ap, sym, subst, ◌∙◌, inl, inr, arith, append-nil, append_assoc}
 use Rattle.std.specs.Option.{option_map, option_or, option_to_list}
-use Rattle.std.specs.FinMap.{get}
 use Rattle.std.proofs.lemmas.Bool.{cases_Bool}
 use Rattle.std.proofs.lemmas.List.{take_all, length-take-le}
 use Rattle.std.proofs.lemmas.List.Concat.{flat_map-append}
@@ -16,8 +15,6 @@ use Rattle.kte_text.specs.declared.primitive.Misfit.{Misfit}
 use Rattle.kte_text.proofs.PrimitiveLemmas.{FitInTurn-append, after_all-append}
 use Rattle.kte_place.specs.Ends.{Ends}
 use Rattle.kte_place.specs.declared.place.Place.{Place}
-use Rattle.kte_history.specs.declared.lock.Owner.TheVariants.{Editor}
-use Rattle.kte_history.specs.Locks.{has_lock}
 use Rattle.kte_edit.specs.Steps.{IsChange, change_misfit, steps_of, further, insertion, removed_lines, removal, without_empty}
 use Rattle.kte_edit.specs.declared.change.Change.{Change}
 use Rattle.kte_edit.proofs.ChangeLemmas.{sound_change}
@@ -25,11 +22,11 @@ use Rattle.kte_undo.specs.Steps.{steps_along, redo_of}
 use Rattle.kte_undo.specs.Groups.{Edits, last_of}
 use Rattle.kte_undo.specs.declared.step.Step.{Step}
 use Rattle.kte_command.specs.declared.command.Command.{Command}
-use Rattle.kte_command.specs.declared.command.Command.TheVariants.{Edit, Begin, End, Undo, Redo, MakeRange, SetRange, DropRange, ShowRange, Lock, Unlock, Land, Check, Sync, Save}
-use Rattle.kte_core.specs.Editing.{Editing, EditReaction, text_of, judged, full, carried, not_open, still_open, change_refusal, group_refusal, changed, closing, noted_change, cut_reaction}
+use Rattle.kte_command.specs.declared.command.Command.TheVariants.{Edit, Begin, End, Undo, Redo, Check}
+use Rattle.kte_core.specs.Editing.{Editing, EditReaction, text_of, judged, full, carried, not_open, change_refusal, group_refusal, changed, closing, noted_change, cut_reaction}
 use Rattle.kte_core.specs.Groups.{Leads, GroupsFit, IsFilled, command_of, groups_to, group_steps, gone}
 use Rattle.kte_core.specs.State.{State, Reaction, edited}
-use Rattle.kte_core.specs.React.{react, react_by, react_command, cut_at, CutsBetween, can_land_from}
+use Rattle.kte_core.specs.React.{react, react_by, react_command, cut_at, CutsBetween}
 use Rattle.kte_core.specs.Replay.{beginning, replay, came_of, after_event, transactions, primitives_in, Answered}
 use Rattle.kte_core.specs.Requests.{HoldsChange, IsWhole}
 use Rattle.kte_core.specs.Shown.{react_open}
@@ -46,7 +43,7 @@ use Rattle.kte_core.proofs.GroupLemmas.{FitInTurn-take, Leads-text, Leads-back, 
 use Rattle.kte_core.proofs.EditLemmas.{moved, group_reacts, group_cut}
 use Rattle.kte_core.proofs.UndoLemmas.{Going, group_fits_text, fits_gone, has_steps}
 use Rattle.kte_core.proofs.CaseLemmas.{event_grows}
-use Rattle.kte_core.proofs.TransactionLemmas.{IsStill, Parts, parts-by, IsCommand, quiet_unless, unless, within_open, no_cut, not_refused, no_end, open_unless, shut_unless, still-outside, still-set, still-drop, still-show, still-unlock, still-land, uncut}
+use Rattle.kte_core.proofs.TransactionLemmas.{Parts, parts-by, IsCommand, quiet_unless, unless, within_open, no_cut, not_refused, no_end, open_unless, shut_unless, still, uncut}
 
 -- the insertions of a change are lines
 lines-further : (line column : ℕ) (lines : List (List ℕ)) → All IsLine lines → All HasLine (further line column lines)
@@ -204,9 +201,6 @@ steady-go_cut direction state n steady some within =
     subst (λ (r : Reaction). IsSteady r.after.editing) (sym (group_cut direction state n))
     (steady-moved direction reply.Cut editing n steady none some (omega arith))
 
-steady-still : (state : State) (reaction : Reaction) → IsStill state reaction → IsSteady state.editing → IsSteady reaction.after.editing
-steady-still state reaction still steady = subst (λ (e : Editing). IsSteady e) (sym still.editing) steady
-
 -- each reaction keeps that
 steady-react : (state : State) (command : Command) → HoldsChange command → IsSteady state.editing → IsSteady (react_command state command).after.editing
 steady-react state (Edit change) whole steady =
@@ -225,18 +219,8 @@ steady-react state End whole steady =
     })
 steady-react state Undo whole steady = steady-go Back state steady
 steady-react state Redo whole steady = steady-go Forth state steady
-steady-react state (MakeRange span expand empty) whole steady = steady
-steady-react state (SetRange id span) whole steady = steady-still state (react_command state (SetRange id span)) (still-set state id span (get state.ranges id)) steady
-steady-react state (DropRange id) whole steady = steady-still state (react_command state (DropRange id)) (still-drop state id (get state.ranges id)) steady
-steady-react state (ShowRange id) whole steady = steady-still state (react_command state (ShowRange id)) (still-show state id (get state.ranges id)) steady
-steady-react state Lock whole steady = steady
-steady-react state (Unlock revision) whole steady =
-    steady-still state (react_command state (Unlock revision)) (still-unlock state revision (has_lock state.locks Editor revision)) steady
-steady-react state (Land revision span expand empty) whole steady =
-    steady-still state (react_command state (Land revision span expand empty)) (still-land state revision span expand empty (can_land_from state revision)) steady
 steady-react state (Check rule) whole steady = steady
-steady-react state Sync whole steady = steady-still state (react_command state Sync) (still-outside state (still_open state.editing.edits.depth)) steady
-steady-react state Save whole steady = steady-still state (react_command state Save) (still-outside state (still_open state.editing.edits.depth)) steady
+steady-react state command whole steady = subst (λ (e : Editing). IsSteady e) (sym (still state command tt).editing) steady
 
 -- .. also where memory runs out
 steady-cut : (state : State) (command : Command) (n : ℕ) → HoldsChange command → IsSteady state.editing → 0 < n
@@ -249,23 +233,8 @@ steady-cut state Begin n whole steady some within = absurd (omega arith)
 steady-cut state End n whole steady some within = absurd (no_end state.editing n within)
 steady-cut state Undo n whole steady some within = steady-go_cut Back state n steady some within
 steady-cut state Redo n whole steady some within = steady-go_cut Forth state n steady some within
-steady-cut state (MakeRange span expand empty) n whole steady some within = absurd (omega arith)
-steady-cut state (SetRange id span) n whole steady some within =
-    absurd (uncut state (react_command state (SetRange id span)) n (still-set state id span (get state.ranges id)).made within)
-steady-cut state (DropRange id) n whole steady some within =
-    absurd (uncut state (react_command state (DropRange id)) n (still-drop state id (get state.ranges id)).made within)
-steady-cut state (ShowRange id) n whole steady some within =
-    absurd (uncut state (react_command state (ShowRange id)) n (still-show state id (get state.ranges id)).made within)
-steady-cut state Lock n whole steady some within = absurd (omega arith)
-steady-cut state (Unlock revision) n whole steady some within =
-    absurd (uncut state (react_command state (Unlock revision)) n (still-unlock state revision (has_lock state.locks Editor revision)).made within)
-steady-cut state (Land revision span expand empty) n whole steady some within =
-    absurd (uncut state (react_command state (Land revision span expand empty)) n (still-land state revision span expand empty (can_land_from state revision)).made within)
 steady-cut state (Check rule) n whole steady some within = absurd (omega arith)
-steady-cut state Sync n whole steady some within =
-    absurd (uncut state (react_command state Sync) n (still-outside state (still_open state.editing.edits.depth)).made within)
-steady-cut state Save n whole steady some within =
-    absurd (uncut state (react_command state Save) n (still-outside state (still_open state.editing.edits.depth)).made within)
+steady-cut state command n whole steady some within = absurd (uncut state (react_command state command) n (still state command tt).made within)
 
 steady-quiet : (state : State) (seat : ℕ) (request : Request) → (IsCommand request → ⊥) → IsSteady state.editing
     → IsSteady (react state seat request).after.editing

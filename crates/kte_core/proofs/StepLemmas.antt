@@ -1,6 +1,6 @@
 -- Primitives that are made one after another.
 use Rattle.std.proofs.Common.{◌≡◌, ℕ, ◌+◌, ◌≤◌, false, List, [], ◌∷◌, ◌++◌, length, take, drop, All, Some, None, refl, ap, sym, subst, ◌∙◌, arith, append-nil, append_assoc, length-append, add-zero}
-use Rattle.std.specs.Prelude.{Result, Ok, Err, is_err, OnOk}
+use Rattle.std.specs.Prelude.{Result, Ok, Err, is_err, is_ok, OnOk}
 use Rattle.std.specs.List.{slice_get}
 use Rattle.std.proofs.lemmas.Option.{slice_get_within, get_or_from_slice_get}
 use Rattle.std.proofs.lemmas.List.{take_more, drop_more}
@@ -26,6 +26,7 @@ IsAfter-none document = record {
   ranges = λ id. refl;
   next_id = refl;
   locks = refl;
+  folds = λ folds are. are;
 }
 
 -- first some primitives, and then others
@@ -39,6 +40,7 @@ IsAfter-join ps qs a b c first last = record {
   ranges = λ id. last.ranges id ∙ first.ranges id;
   next_id = last.next_id ∙ first.next_id;
   locks = last.locks ∙ first.locks;
+  folds = λ folds are. last.folds folds (first.folds folds are);
 }
 
 -- the first primitives are one more
@@ -67,19 +69,33 @@ fits_next ps n p text found fit =
     let next = subst (λ (qs : List Primitive). FitInTurn qs text) (left ps n p found) fit in
     record { fits = next.0; some = next.1; rest = next.2 }
 
--- .. so after it the first primitives are one more, and the others fit
-pub record IsFurther (ps : List Primitive) (n : ℕ) (start now : Document) : Type 0 where
-  pub count : n + 1 ≤ length ps
-  pub after : IsAfter (take (n + 1) ps) start now
-  pub fit : FitInTurn (drop (n + 1) ps) now.text
+-- what holds of a success holds where there is no error
+pub on_success : {T E : Type 0} (result : Result T E) (P : Type 0) → is_err result ≡ false → OnOk result P → P
+on_success (Ok x) P fine h = h
+on_success (Err e) P fine h = absurd (cc)
 
-pub one_further : (ps : List Primitive) (n : ℕ) (p : Primitive) (start was now : Document) → slice_get ps n ≡ Some p
-    → IsAfter (take n ps) start was → FitInTurn (drop n ps) was.text → IsAfter (p ∷ []) was now → IsFurther ps n start now
-one_further ps n p start was now found before fit one = record {
-  count = omega (arith, slice_get_within ps n p found);
-  after = IsAfter-more ps n p start was now found before one;
-  fit = rw one.text (fits_next ps n p was.text found fit).rest;
-}
+-- so many of the primitives were made, and the others fit in turn
+pub record Applied (ps : List Primitive) (n : ℕ) (start now : Document) : Type 0 where
+  pub count : n ≤ length ps
+  pub after : IsAfter (take n ps) start now
+  pub fit : FitInTurn (drop n ps) now.text
+  pub none : n ≡ 0 → now ≡ start
+
+pub applied_none : (ps : List Primitive) (start : Document) → FitInTurn ps start.text → Applied ps 0 start start
+applied_none ps start fit = record { count = omega arith; after = IsAfter-none start; fit = fit; none = λ zero. refl }
+
+-- .. and then the next one
+pub applied_more : {T E : Type 0} (ps : List Primitive) (n : ℕ) (p : Primitive) (start was now : Document) (result : Result T E)
+    → slice_get ps n ≡ Some p → Applied ps n start was → is_err result ≡ false → OnOk result (IsAfter (p ∷ []) was now)
+    → Applied ps (n + 1) start now
+applied_more ps n p start was now result found applied fine made =
+    let one = on_success result _ fine made in
+    record {
+      count = omega (arith, slice_get_within ps n p found);
+      after = IsAfter-more ps n p start was now found applied.after one;
+      fit = rw one.text (fits_next ps n p was.text found applied.fit).rest;
+      none = λ zero. absurd (omega arith);
+    }
 
 pub lines_more : (ps : List Primitive) (n : ℕ) (p : Primitive) → slice_get ps n ≡ Some p → All HasLine (take n ps) → HasLine p
     → All HasLine (take (n + 1) ps)
@@ -101,7 +117,8 @@ noted_more ps n p text now old edits later found reached before noted_p =
     ∙ ap (λ (s : List Step). record old { current = s }) (append_assoc old.current (steps_along qs text) (step p (cut_by p now) (old_of p now) ∷ []))
     ∙ ap (λ (s : List Step). noted_all s old) (sym along)
 
--- what holds of a success holds where there is no error
-pub on_success : {T E : Type 0} (result : Result T E) (P : Type 0) → is_err result ≡ false → OnOk result P → P
-on_success (Ok x) P fine h = h
-on_success (Err e) P fine h = absurd (cc)
+-- what holds of a success holds of a result whose error alone is another
+pub on_mapped : {T E D : Type 0} (inner : Result T E) (outer : Result T D) (P : Type 0) → is_ok outer ≡ is_ok inner → (is_err inner ≡ false → P) → OnOk outer P
+on_mapped (Ok x) (Ok y) P same h = h refl
+on_mapped (Err e) (Ok y) P same h = absurd (cc)
+on_mapped inner (Err e) P same h = tt

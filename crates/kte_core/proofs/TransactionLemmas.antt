@@ -1,7 +1,8 @@
 -- The primitives made are those of the finished transactions and of the open one.
 use Rattle.std.proofs.Common.{◌≡◌, ℕ, ◌+◌, ◌-◌, ◌<◌, ◌≤◌, ◌==◌, Bool, true, false, List, [], ◌∷◌, ◌++◌, length, take, Option, None, Some, refl, ap, sym, ◌∙◌, if◌then◌else◌, inl, inr, arith, append-nil}
 use Rattle.std.specs.Option.{option_to_list}
-use Rattle.std.specs.FinMap.{get}
+use Rattle.std.specs.Ordering.{nat_cmp}
+use Rattle.std.specs.FinMap.{FinMap, get}
 use Rattle.std.proofs.lemmas.Bool.{cases_Bool, eq-eqb, eqb-true, eqb-false, ne_eqb}
 use Rattle.std.proofs.lemmas.List.{map-append}
 use Rattle.kte_text.specs.Primitives.{FitInTurn, after, after_all}
@@ -9,18 +10,23 @@ use Rattle.kte_text.specs.declared.primitive.Primitive.{Primitive}
 use Rattle.kte_place.specs.Ends.{Ends}
 use Rattle.kte_place.specs.declared.span.Expand.{Expand}
 use Rattle.kte_place.specs.declared.span.Empty.{Empty}
-use Rattle.kte_history.specs.declared.lock.Owner.TheVariants.{Editor}
+use Rattle.kte_history.specs.declared.lock.Lock.{Lock as OneLock}
+use Rattle.kte_history.specs.declared.lock.Owner.TheVariants as owner
 use Rattle.kte_history.specs.Locks.{has_lock}
 use Rattle.kte_edit.specs.Steps.{steps_of}
+use Rattle.kte_fold.specs.declared.refused.FoldRefused.{FoldRefused}
+use Rattle.kte_search.specs.Found.{first_match, last_match, all_matches}
 use Rattle.kte_undo.specs.Steps.{steps_along, redo_of, forth_of}
 use Rattle.kte_undo.specs.Groups.{Edits, begun, closed, ended, gone_back, gone_forth}
 use Rattle.kte_undo.specs.declared.step.Step.{Step}
 use Rattle.kte_undo.proofs.InverseLemmas.{redoes}
 use Rattle.kte_command.specs.declared.command.Command.{Command}
-use Rattle.kte_command.specs.declared.command.Command.TheVariants.{Edit, Begin, End, Undo, Redo, MakeRange, SetRange, DropRange, ShowRange, Lock, Unlock, Land, Check, Sync, Save}
-use Rattle.kte_core.specs.Editing.{Editing, EditReaction, text_of, judged, not_open, still_open, if_made, finished_at, noted_all, noted_change, carried, changed, undone, redone, undo_steps, redo_steps, change_refusal, group_refusal, closing, cut_reaction}
-use Rattle.kte_core.specs.State.{State, Range, Reaction, edited, refused}
-use Rattle.kte_core.specs.React.{react, react_by, react_command, cut_at, CutsBetween, set_range, drop_range, show_range, unlock, land, can_land_from, ask_outside, unless_closed, close}
+use Rattle.kte_command.specs.declared.command.Command.TheVariants.{Edit, Begin, End, Undo, Redo, MakeRange, SetRange, DropRange, ShowRange, Lock, Unlock, Land, Fold, Unfold, Find, FindBack, All, Check, Sync, Save}
+use Rattle.kte_core.specs.Editing.{Editing, EditReaction, text_of, revision_of, judged, not_open, still_open, if_made, finished_at, noted_all, noted_change, carried, changed, undone, redone, undo_steps, redo_steps, change_refusal, group_refusal, closing, cut_reaction}
+use Rattle.kte_core.specs.State.{State, Range, Reaction, edited, replied, refused}
+use Rattle.kte_core.specs.Folds.{only_fold, no_fold, fold_refusal}
+use Rattle.kte_core.specs.Kept.{kept_after}
+use Rattle.kte_core.specs.React.{react, react_by, react_command, cut_at, CutsBetween, set_range, drop_range, show_range, unlock, land, can_land_from, fold, drop_fold, told_found, ask_outside, unless_closed, close}
 use Rattle.kte_core.specs.Jobs.{take_job, deliver, give_back, taken_at}
 use Rattle.kte_jobs.specs.Jobs.{least_waiting}
 use Rattle.kte_core.specs.Replay.{primitives_in}
@@ -30,6 +36,7 @@ use Rattle.kte_core.specs.declared.reply.Refusal.{Refusal}
 use Rattle.kte_core.specs.declared.reply.Refusal.TheVariants.{Closed}
 use Rattle.kte_core.specs.declared.request.Request.{Request}
 use Rattle.kte_core.specs.declared.request.Request.TheVariants.{Cmd, Close, Take, Deliver, GiveBack, Outcome}
+use Rattle.kte_core.proofs.LockLemmas.{push_other, unlocked_editor}
 
 -- A reaction that edits nothing
 pub record IsQuiet (state : State) (reaction : Reaction) : Type 0 where
@@ -37,49 +44,132 @@ pub record IsQuiet (state : State) (reaction : Reaction) : Type 0 where
   pub made : reaction.made ≡ []
   pub finished : reaction.finished ≡ None
 
--- .. nor changes jobs: the number of the next range rises by one at most
+-- .. nor changes jobs, their locks and the close: the number of the next range rises by one at most,
+-- and the reply says neither that memory ran out nor that room is to be kept or given up
 pub record IsStill (state : State) (reaction : Reaction) : Type 0 where
   pub editing : reaction.after.editing ≡ state.editing
   pub made : reaction.made ≡ []
   pub finished : reaction.finished ≡ None
   pub next_id : reaction.after.next_id ≤ state.next_id + 1
   pub uncut : cut_at reaction.reply ≡ None
+  pub kept : (kept : ℕ) → kept_after kept reaction.reply ≡ kept
   pub jobs : reaction.after.jobs ≡ state.jobs
   pub closed : reaction.after.closed ≡ state.closed
+  pub locks : (job revision : ℕ) → has_lock reaction.after.locks (owner.Job job) revision ≡ has_lock state.locks (owner.Job job) revision
 
 quiet : (state : State) (reaction : Reaction) → IsStill state reaction → IsQuiet state reaction
 quiet state reaction still = record { editing = still.editing; made = still.made; finished = still.finished }
 
+-- the ranges and the locks of the editor may change
+still-ranges : (state : State) (told : Reply) (ranges : FinMap nat_cmp Range) (next : ℕ) → next ≤ state.next_id + 1
+    → cut_at told ≡ None → ((kept : ℕ) → kept_after kept told ≡ kept)
+    → IsStill state (record { reply = told; made = []; finished = None; after = record state { ranges = ranges; next_id = next } })
+still-ranges state told ranges next id uncut kept = record {
+  editing = refl;
+  made = refl;
+  finished = refl;
+  next_id = id;
+  uncut = uncut;
+  kept = kept;
+  jobs = refl;
+  closed = refl;
+  locks = λ job revision. refl;
+}
+
+still-locks : (state : State) (told : Reply) (locks : List OneLock) → cut_at told ≡ None → ((kept : ℕ) → kept_after kept told ≡ kept)
+    → ((job revision : ℕ) → has_lock locks (owner.Job job) revision ≡ has_lock state.locks (owner.Job job) revision)
+    → IsStill state (record { reply = told; made = []; finished = None; after = record state { locks = locks } })
+still-locks state told locks uncut kept same = record {
+  editing = refl;
+  made = refl;
+  finished = refl;
+  next_id = omega arith;
+  uncut = uncut;
+  kept = kept;
+  jobs = refl;
+  closed = refl;
+  locks = same;
+}
+
+still-replied : (state : State) (told : Reply) → cut_at told ≡ None → ((kept : ℕ) → kept_after kept told ≡ kept) → IsStill state (replied state told)
+still-replied state told uncut kept = still-ranges state told state.ranges state.next_id (omega arith) uncut kept
+
+still-refused : (state : State) (cause : Refusal) → IsStill state (refused state cause)
+still-refused state cause = still-replied state (reply.Refused cause) refl (λ kept. refl)
+
 pub still-make : (state : State) (span : Ends) (expand : Expand) (empty : Empty) → IsStill state (react_command state (MakeRange span expand empty))
-still-make state span expand empty = record { editing = refl; made = refl; finished = refl; next_id = omega arith; uncut = refl; jobs = refl; closed = refl }
+still-make state span expand empty = still-ranges state _ _ (state.next_id + 1) (omega arith) refl (λ kept. refl)
 
 pub still-lock : (state : State) → IsStill state (react_command state Lock)
-still-lock state = record { editing = refl; made = refl; finished = refl; next_id = omega arith; uncut = refl; jobs = refl; closed = refl }
+still-lock state =
+    still-locks state _ _ refl (λ kept. refl)
+    (λ job revision. push_other state.locks (record { owner = owner.Editor; revision = revision_of state.editing }) (owner.Job job) revision refl)
 
 pub still-set : (state : State) (id : ℕ) (span : Ends) (found : Option Range) → IsStill state (set_range state id span found)
-still-set state id span None = record { editing = refl; made = refl; finished = refl; next_id = omega arith; uncut = refl; jobs = refl; closed = refl }
-still-set state id span (Some range) = record { editing = refl; made = refl; finished = refl; next_id = omega arith; uncut = refl; jobs = refl; closed = refl }
+still-set state id span None = still-refused state _
+still-set state id span (Some range) = still-ranges state _ _ state.next_id (omega arith) refl (λ kept. refl)
 
 pub still-drop : (state : State) (id : ℕ) (found : Option Range) → IsStill state (drop_range state id found)
-still-drop state id None = record { editing = refl; made = refl; finished = refl; next_id = omega arith; uncut = refl; jobs = refl; closed = refl }
-still-drop state id (Some range) = record { editing = refl; made = refl; finished = refl; next_id = omega arith; uncut = refl; jobs = refl; closed = refl }
+still-drop state id None = still-refused state _
+still-drop state id (Some range) = still-ranges state _ _ state.next_id (omega arith) refl (λ kept. refl)
 
 pub still-show : (state : State) (id : ℕ) (found : Option Range) → IsStill state (show_range state id found)
-still-show state id None = record { editing = refl; made = refl; finished = refl; next_id = omega arith; uncut = refl; jobs = refl; closed = refl }
-still-show state id (Some range) = record { editing = refl; made = refl; finished = refl; next_id = omega arith; uncut = refl; jobs = refl; closed = refl }
+still-show state id None = still-refused state _
+still-show state id (Some range) = still-replied state _ refl (λ kept. refl)
 
 pub still-unlock : (state : State) (revision : ℕ) (owned : Bool) → IsStill state (unlock state revision owned)
-still-unlock state revision true = record { editing = refl; made = refl; finished = refl; next_id = omega arith; uncut = refl; jobs = refl; closed = refl }
-still-unlock state revision false = record { editing = refl; made = refl; finished = refl; next_id = omega arith; uncut = refl; jobs = refl; closed = refl }
+still-unlock state revision true =
+    still-locks state _ _ refl (λ kept. refl) (λ job another. unlocked_editor state.locks revision job another)
+still-unlock state revision false = still-refused state _
 
 pub still-land : (state : State) (revision : ℕ) (span : Ends) (expand : Expand) (empty : Empty) (may : Bool)
     → IsStill state (land state revision span expand empty may)
-still-land state revision span expand empty true = record { editing = refl; made = refl; finished = refl; next_id = omega arith; uncut = refl; jobs = refl; closed = refl }
-still-land state revision span expand empty false = record { editing = refl; made = refl; finished = refl; next_id = omega arith; uncut = refl; jobs = refl; closed = refl }
+still-land state revision span expand empty true = still-replied state _ refl (λ kept. refl)
+still-land state revision span expand empty false = still-refused state _
+
+pub still-fold : (state : State) (span : Ends) (cause : Option FoldRefused) → IsStill state (fold state span cause)
+still-fold state span None = still-ranges state _ _ (state.next_id + 1) (omega arith) refl (λ kept. refl)
+still-fold state span (Some cause) = still-refused state _
+
+pub still-drop_fold : (state : State) (id : ℕ) (found : Option Range) → IsStill state (drop_fold state id found)
+still-drop_fold state id None = still-refused state _
+still-drop_fold state id (Some range) = still-ranges state _ _ state.next_id (omega arith) refl (λ kept. refl)
+
+pub still-found : (state : State) (found : List Ends) → IsStill state (replied state (told_found found))
+still-found state [] = still-refused state _
+still-found state (first ∷ others) = still-replied state _ refl (λ kept. refl)
 
 pub still-outside : (state : State) (cause : Option Refusal) → IsStill state (ask_outside state cause)
-still-outside state None = record { editing = refl; made = refl; finished = refl; next_id = omega arith; uncut = refl; jobs = refl; closed = refl }
-still-outside state (Some refusal) = record { editing = refl; made = refl; finished = refl; next_id = omega arith; uncut = refl; jobs = refl; closed = refl }
+still-outside state None = still-replied state _ refl (λ kept. refl)
+still-outside state (Some refusal) = still-refused state refusal
+
+-- the command neither edits nor posts a job
+abbrev pub IsPlain : Command → Type 0
+IsPlain (Edit change) = ⊥
+IsPlain Begin = ⊥
+IsPlain End = ⊥
+IsPlain Undo = ⊥
+IsPlain Redo = ⊥
+IsPlain (Check rule) = ⊥
+IsPlain _ = Unit {0}
+
+-- what comes of all such commands
+pub still : (state : State) (command : Command) → IsPlain command → IsStill state (react_command state command)
+still state (MakeRange span expand empty) plain = still-make state span expand empty
+still state (SetRange id span) plain = still-set state id span (no_fold (get state.ranges id))
+still state (DropRange id) plain = still-drop state id (no_fold (get state.ranges id))
+still state (ShowRange id) plain = still-show state id (no_fold (get state.ranges id))
+still state Lock plain = still-lock state
+still state (Unlock revision) plain = still-unlock state revision (has_lock state.locks owner.Editor revision)
+still state (Land revision span expand empty) plain = still-land state revision span expand empty (can_land_from state revision)
+still state (Fold span) plain = still-fold state span (fold_refusal state span)
+still state (Unfold id) plain = still-drop_fold state id (only_fold (get state.ranges id))
+still state (Find from query) plain = still-found state (option_to_list (first_match query (text_of state.editing) from))
+still state (FindBack before query) plain = still-found state (option_to_list (last_match query (text_of state.editing) before))
+still state (All query) plain = still-found state (all_matches query (text_of state.editing))
+still state Sync plain = still-outside state (still_open state.editing.edits.depth)
+still state Save plain = still-outside state (still_open state.editing.edits.depth)
+still state _ plain = absurd plain
 
 -- what holds of a refusal for a closed session, and of a reaction where it is not closed
 if_then : (P : Reaction → Type 0) (b : Bool) (x y : Reaction) → P x → (b ≡ false → P y) → P (if b then x else y)
@@ -247,6 +337,15 @@ shut_unless editing groups ps none =
       | inr f ↦ let open_none = rw f at none in absurd (cc)
     ]
 
+-- primitives of the last group to be undone, or to be redone: these are its steps
+parts-group : (editing : Editing) (groups : List (List Step)) (steps ps : List Primitive) (edits : Edits) (told : ℕ → ℕ → ℕ → Reply)
+    → (editing.edits.depth ≡ 0 → editing.edits.current ≡ []) → edits.depth ≡ editing.edits.depth → edits.current ≡ editing.edits.current
+    → group_refusal editing groups steps ≡ None
+    → Parts editing ps (carried told editing ps edits).finished (record editing { trail = editing.trail ++ ps; edits = edits })
+parts-group editing groups steps ps edits told shut depth current none =
+    let zero = shut_unless editing groups steps none in
+    parts-alone editing ps edits told (shut zero) (depth ∙ zero) (current ∙ shut zero)
+
 pub open_unless : (depth : ℕ) → not_open depth ≡ None → 0 < depth
 open_unless depth none =
     elim (cases_Bool (depth == 0)) [
@@ -267,9 +366,6 @@ parts-quiet : (state : State) (reaction : Reaction) → IsQuiet state reaction �
 parts-quiet state reaction quiet =
     rw (quiet.made, quiet.finished, quiet.editing) (parts-none state.editing)
 
-parts-still : (state : State) (reaction : Reaction) → IsStill state reaction → PartsOf state reaction
-parts-still state reaction still = parts-quiet state reaction (quiet state reaction still)
-
 -- the primitives are made in a text that they fit
 abbrev pub FitsAfter : State → Reaction → Type 0
 FitsAfter state reaction = FitInTurn reaction.after.editing.trail state.editing.loaded.text
@@ -286,27 +382,16 @@ parts-react state End shut fit =
     (λ fits none. parts-closing state.editing (open_unless state.editing.edits.depth none)) fit
 parts-react state Undo shut fit =
     let editing = state.editing in
-    parts-judged (group_refusal editing editing.edits.undo (undo_steps editing)) editing (undone reply.Edited editing (undo_steps editing))
-    (λ fits none.
-    let zero = shut_unless editing editing.edits.undo (undo_steps editing) none in
-    parts-alone editing (undo_steps editing) (gone_back (length (undo_steps editing)) editing.edits) reply.Edited (shut zero) zero (shut zero)) fit
+    let steps = undo_steps editing in
+    parts-judged (group_refusal editing editing.edits.undo steps) editing (undone reply.Edited editing steps)
+    (λ fits none. parts-group editing editing.edits.undo steps steps (gone_back (length steps) editing.edits) reply.Edited shut refl refl none) fit
 parts-react state Redo shut fit =
     let editing = state.editing in
-    parts-judged (group_refusal editing editing.edits.redo (redo_steps editing)) editing (redone reply.Edited editing (redo_steps editing))
-    (λ fits none.
-    let zero = shut_unless editing editing.edits.redo (redo_steps editing) none in
-    parts-alone editing (redo_steps editing) (gone_forth (length (redo_steps editing)) editing.edits) reply.Edited (shut zero) zero (shut zero)) fit
-parts-react state (MakeRange span expand empty) shut fit = parts-none state.editing
-parts-react state (SetRange id span) shut fit = parts-still state _ (still-set state id span (get state.ranges id))
-parts-react state (DropRange id) shut fit = parts-still state _ (still-drop state id (get state.ranges id))
-parts-react state (ShowRange id) shut fit = parts-still state _ (still-show state id (get state.ranges id))
-parts-react state Lock shut fit = parts-none state.editing
-parts-react state (Unlock revision) shut fit = parts-still state _ (still-unlock state revision (has_lock state.locks Editor revision))
-parts-react state (Land revision span expand empty) shut fit =
-    parts-still state _ (still-land state revision span expand empty (can_land_from state revision))
+    let steps = redo_steps editing in
+    parts-judged (group_refusal editing editing.edits.redo steps) editing (redone reply.Edited editing steps)
+    (λ fits none. parts-group editing editing.edits.redo steps steps (gone_forth (length steps) editing.edits) reply.Edited shut refl refl none) fit
 parts-react state (Check rule) shut fit = parts-none state.editing
-parts-react state Sync shut fit = parts-still state _ (still-outside state (still_open state.editing.edits.depth))
-parts-react state Save shut fit = parts-still state _ (still-outside state (still_open state.editing.edits.depth))
+parts-react state command shut fit = parts-quiet state _ (quiet state _ (still state command tt))
 
 -- a command that makes no primitive is not cut
 pub uncut : (state : State) (reaction : Reaction) (n : ℕ) → reaction.made ≡ [] → n < length reaction.made → ⊥
@@ -328,28 +413,18 @@ parts-cut state Begin n shut within fit = absurd (omega arith)
 parts-cut state End n shut within fit = absurd (no_end state.editing n within)
 parts-cut state Undo n shut within fit =
     let editing = state.editing in
-    let ps = take n (undo_steps editing) in
-    let none = not_refused (group_refusal editing editing.edits.undo (undo_steps editing)) editing (undone reply.Edited editing (undo_steps editing)) n within in
-    let zero = shut_unless editing editing.edits.undo (undo_steps editing) none in
-    parts-alone editing ps (gone_back (length ps) editing.edits) reply.Cut (shut zero) zero (shut zero)
+    let steps = undo_steps editing in
+    let ps = take n steps in
+    parts-group editing editing.edits.undo steps ps (gone_back (length ps) editing.edits) reply.Cut shut refl refl
+    (not_refused (group_refusal editing editing.edits.undo steps) editing (undone reply.Edited editing steps) n within)
 parts-cut state Redo n shut within fit =
     let editing = state.editing in
-    let ps = take n (redo_steps editing) in
-    let none = not_refused (group_refusal editing editing.edits.redo (redo_steps editing)) editing (redone reply.Edited editing (redo_steps editing)) n within in
-    let zero = shut_unless editing editing.edits.redo (redo_steps editing) none in
-    parts-alone editing ps (gone_forth (length ps) editing.edits) reply.Cut (shut zero) zero (shut zero)
-parts-cut state (MakeRange span expand empty) n shut within fit = absurd (omega arith)
-parts-cut state (SetRange id span) n shut within fit = absurd (uncut state (react_command state (SetRange id span)) n (still-set state id span (get state.ranges id)).made within)
-parts-cut state (DropRange id) n shut within fit = absurd (uncut state (react_command state (DropRange id)) n (still-drop state id (get state.ranges id)).made within)
-parts-cut state (ShowRange id) n shut within fit = absurd (uncut state (react_command state (ShowRange id)) n (still-show state id (get state.ranges id)).made within)
-parts-cut state Lock n shut within fit = absurd (omega arith)
-parts-cut state (Unlock revision) n shut within fit =
-    absurd (uncut state (react_command state (Unlock revision)) n (still-unlock state revision (has_lock state.locks Editor revision)).made within)
-parts-cut state (Land revision span expand empty) n shut within fit =
-    absurd (uncut state (react_command state (Land revision span expand empty)) n (still-land state revision span expand empty (can_land_from state revision)).made within)
+    let steps = redo_steps editing in
+    let ps = take n steps in
+    parts-group editing editing.edits.redo steps ps (gone_forth (length ps) editing.edits) reply.Cut shut refl refl
+    (not_refused (group_refusal editing editing.edits.redo steps) editing (redone reply.Edited editing steps) n within)
 parts-cut state (Check rule) n shut within fit = absurd (omega arith)
-parts-cut state Sync n shut within fit = absurd (uncut state (react_command state Sync) n (still-outside state (still_open state.editing.edits.depth)).made within)
-parts-cut state Save n shut within fit = absurd (uncut state (react_command state Save) n (still-outside state (still_open state.editing.edits.depth)).made within)
+parts-cut state command n shut within fit = absurd (uncut state (react_command state command) n (still state command tt).made within)
 
 -- what is cut in a session that may be closed is not refused
 pub within_open : (state : State) (reaction : Reaction) (n : ℕ) → n < length (unless_closed state reaction).made → n < length reaction.made

@@ -20,7 +20,7 @@ use Rattle.kte_core.specs.declared.edits.Direction.TheVariants.{Back, Forth}
 use Rattle.kte_core.specs.declared.event.Step.{Step}
 use Rattle.kte_core.specs.declared.reply.Refusal.TheVariants as refusal
 use Rattle.kte_core.proofs.EditLemmas.{may_go, is_ok_from, group_is_full}
-use Rattle.kte_core.proofs.GroupLemmas.{Leads-back, Leads-forth, last_undo, last_redo, last_filled, fit-gone_back, fit-gone_forth}
+use Rattle.kte_core.proofs.GroupLemmas.{Leads-back, Leads-forth, last_undo, last_redo, last_filled, fit-gone}
 
 -- one cause is the same cause
 pub err_same : (result : Result (List Primitive) UndoFault) (given fault : UndoFault) → result ≡ Err given → given ≡ fault → result ≡ Err fault
@@ -84,12 +84,6 @@ steps_fit Back edits text shut some fit =
 steps_fit Forth edits text shut some fit =
     let last = (last_redo edits text shut some fit).parts in
     (Leads-forth (last_of edits.redo) text last.mid last.first).fit
-
-fit-gone : (direction : Direction) (edits : Edits) (text : List (List ℕ)) (n : ℕ) → edits.depth ≡ 0 → 0 < length (groups_to direction edits)
-    → 0 < n → n ≤ length (last_of (groups_to direction edits)) → GroupsFit edits text
-    → GroupsFit (gone direction n edits) (after_all (take n (group_steps direction edits)) text)
-fit-gone Back edits text n shut some one within fit = fit-gone_back edits text n shut some one within fit
-fit-gone Forth edits text n shut some one within fit = fit-gone_forth edits text n shut some one within fit
 
 -- where not none of them was made, some was
 some_done : (n all : ℕ) → 0 < all → (n < all → 0 < n) → 0 < n

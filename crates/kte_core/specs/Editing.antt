@@ -9,11 +9,13 @@ use Rattle.kte_text.specs.declared.primitive.Primitive.{Primitive}
 use Rattle.kte_text.specs.declared.loading.Loaded.{Loaded}
 use Rattle.kte_edit.specs.Steps.{steps_of, change_misfit}
 use Rattle.kte_edit.specs.declared.change.Change.{Change}
-use Rattle.kte_undo.specs.Steps.{steps_along, undo_of, redo_of}
-use Rattle.kte_undo.specs.Groups.{Edits, last_of, begun, ended, gone_back, gone_forth}
+use Rattle.kte_undo.specs.Steps.{steps_along, redo_of}
+use Rattle.kte_undo.specs.Groups.{Edits, begun, ended}
 use Rattle.kte_undo.specs.declared.step.Step.{Step}
 use Rattle.kte_command.specs.declared.command.Command.{Command}
 use Rattle.kte_command.specs.declared.command.Command.TheVariants as command
+use Rattle.kte_core.specs.Groups.{group_steps, gone}
+use Rattle.kte_core.specs.declared.edits.Direction.TheVariants.{Back, Forth}
 use Rattle.kte_core.specs.declared.reply.Reply.{Reply}
 use Rattle.kte_core.specs.declared.reply.Reply.TheVariants as reply
 use Rattle.kte_core.specs.declared.reply.Refusal.{Refusal}
@@ -123,18 +125,18 @@ changed told editing primitives =
 
 abbrev pub undone : (ℕ → ℕ → ℕ → Reply) → Editing → List Primitive → EditReaction
 undone told editing primitives =
-    carried told editing primitives (gone_back (length primitives) editing.edits)
+    carried told editing primitives (gone Back (length primitives) editing.edits)
 
 abbrev pub redone : (ℕ → ℕ → ℕ → Reply) → Editing → List Primitive → EditReaction
 redone told editing primitives =
-    carried told editing primitives (gone_forth (length primitives) editing.edits)
+    carried told editing primitives (gone Forth (length primitives) editing.edits)
 
 -- the primitives that a command calls for
 abbrev pub undo_steps : Editing → List Primitive
-undo_steps editing = undo_of (last_of editing.edits.undo)
+undo_steps editing = group_steps Back editing.edits
 
 abbrev pub redo_steps : Editing → List Primitive
-redo_steps editing = redo_of (last_of editing.edits.redo)
+redo_steps editing = group_steps Forth editing.edits
 
 -- why a change is refused, if it is
 abbrev pub change_refusal : Editing → Change → Option Refusal

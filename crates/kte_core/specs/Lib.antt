@@ -1,6 +1,7 @@
 pub mod Editing
 pub mod Groups
 pub mod State
+pub mod Folds
 pub mod Jobs
 pub mod React
 pub mod Requests

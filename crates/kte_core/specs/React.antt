@@ -3,6 +3,7 @@
 -- project's own.
 use Rattle.std.specs.Prelude.{ℕ, ◌+◌, ◌<◌, Bool, true, false, ◌==◌, ◌||◌, List, [], ◌∷◌, ◌++◌, length, Option, Some, None, if◌then◌else◌}
 use Rattle.std.specs.FinMap.{get, insert, remove}
+use Rattle.std.specs.Option.{option_to_list}
 use Rattle.kte_text.specs.declared.primitive.Primitive.{Primitive}
 use Rattle.kte_place.specs.Ends.{Ends}
 use Rattle.kte_place.specs.declared.span.Expand.{Expand}
@@ -11,18 +12,22 @@ use Rattle.kte_ranges.specs.declared.info.RangeKind.TheVariants.{User}
 use Rattle.kte_history.specs.declared.lock.Owner.TheVariants.{Editor}
 use Rattle.kte_history.specs.Locks.{oldest, is_locked, has_lock, unlocked}
 use Rattle.kte_doc.specs.Trail.{stand}
+use Rattle.kte_fold.specs.declared.refused.FoldRefused.{FoldRefused}
+use Rattle.kte_search.specs.Found.{first_match, last_match, all_matches}
 use Rattle.kte_jobs.specs.Jobs.{least_waiting}
 use Rattle.kte_command.specs.declared.command.Command.{Command}
-use Rattle.kte_command.specs.declared.command.Command.TheVariants.{Edit, Begin, End, Undo, Redo, MakeRange, SetRange, DropRange, ShowRange, Lock, Unlock, Land, Check, Sync, Save}
-use Rattle.kte_core.specs.Editing.{revision_of, still_open, change_reaction, begin_reaction, end_reaction, undo_reaction, redo_reaction, cut_reaction, carried}
+use Rattle.kte_command.specs.declared.command.Command.TheVariants.{Edit, Begin, End, Undo, Redo, MakeRange, SetRange, DropRange, ShowRange, Lock, Unlock, Land, Fold, Unfold, Find, FindBack, All, Check, Sync, Save}
+use Rattle.kte_core.specs.Editing.{text_of, revision_of, still_open, change_reaction, begin_reaction, end_reaction, undo_reaction, redo_reaction, cut_reaction, carried}
 use Rattle.kte_core.specs.State.{Range, stands, made_now, set_now, State, Reaction, replied, refused, edited}
+use Rattle.kte_core.specs.Folds.{only_fold, no_fold, fold_now, fold_refusal}
 use Rattle.kte_core.specs.Jobs.{post, take_job, deliver, give_back, taken_at}
 use Rattle.kte_core.specs.declared.request.Request.{Request}
 use Rattle.kte_core.specs.declared.request.Request.TheVariants.{Cmd, Close, Take, Deliver, GiveBack, Outcome}
 use Rattle.kte_core.specs.declared.reply.Reply.{Reply}
 use Rattle.kte_core.specs.declared.reply.Reply.TheVariants as reply
 use Rattle.kte_core.specs.declared.reply.Refusal.{Refusal}
-use Rattle.kte_core.specs.declared.reply.Refusal.TheVariants.{NoRange, NotLocked, NotOwned, Closed}
+use Rattle.kte_core.specs.declared.reply.Refusal.TheVariants as refusal
+use Rattle.kte_core.specs.declared.reply.Refusal.TheVariants.{NoRange, NoFold, NoMatch, NotLocked, NotOwned, Closed}
 
 -- the range is put under the number, and the reply says where it stands
 abbrev pub placed : State → ℕ → Range → Reaction
@@ -38,15 +43,19 @@ abbrev pub set_range : State → ℕ → Ends → Option Range → Reaction
 set_range state id span None = refused state (NoRange id)
 set_range state id span (Some range) = placed state id (set_now state.editing span range)
 
--- removing a range, if there is one of this number
-abbrev pub drop_range : State → ℕ → Option Range → Reaction
-drop_range state id None = refused state (NoRange id)
-drop_range state id (Some range) = record {
+-- the range of a number is removed
+abbrev pub dropped : State → ℕ → Reaction
+dropped state id = record {
   reply = reply.Dropped id;
   made = [];
   finished = None;
   after = record state { ranges = remove state.ranges id };
 }
+
+-- removing a range, if there is one of this number
+abbrev pub drop_range : State → ℕ → Option Range → Reaction
+drop_range state id None = refused state (NoRange id)
+drop_range state id (Some range) = dropped state id
 
 -- where a range stands, if there is one of this number
 abbrev pub show_range : State → ℕ → Option Range → Reaction
@@ -87,6 +96,23 @@ land state revision span expand empty true =
 land state revision span expand empty false =
     refused state (NotLocked revision (oldest state.locks))
 
+-- making a fold, if the span may be folded
+abbrev pub fold : State → Ends → Option FoldRefused → Reaction
+fold state span None =
+    placed (record state { next_id = state.next_id + 1 }) state.next_id
+    (fold_now state.editing span)
+fold state span (Some cause) = refused state (refusal.Fold cause)
+
+-- removing a fold, if there is one of this number
+abbrev pub drop_fold : State → ℕ → Option Range → Reaction
+drop_fold state id None = refused state (NoFold id)
+drop_fold state id (Some range) = dropped state id
+
+-- what is replied of the matches that a search has found
+abbrev pub told_found : List Ends → Reply
+told_found [] = reply.Refused NoMatch
+told_found (first ∷ others) = reply.Found (first ∷ others)
+
 -- what is to be done outside of the core is asked for, if no transaction is open
 abbrev pub ask_outside : State → Option Refusal → Reaction
 ask_outside state None = replied state reply.Asked
@@ -102,14 +128,23 @@ react_command state Redo = edited state (redo_reaction state.editing)
 react_command state (MakeRange span expand empty) =
     placed (record state { next_id = state.next_id + 1 }) state.next_id
     (made_now state.editing span expand empty User)
-react_command state (SetRange id span) = set_range state id span (get state.ranges id)
-react_command state (DropRange id) = drop_range state id (get state.ranges id)
-react_command state (ShowRange id) = show_range state id (get state.ranges id)
+react_command state (SetRange id span) =
+    set_range state id span (no_fold (get state.ranges id))
+react_command state (DropRange id) = drop_range state id (no_fold (get state.ranges id))
+react_command state (ShowRange id) = show_range state id (no_fold (get state.ranges id))
 react_command state Lock = lock state
 react_command state (Unlock revision) =
     unlock state revision (has_lock state.locks Editor revision)
 react_command state (Land revision span expand empty) =
     land state revision span expand empty (can_land_from state revision)
+react_command state (Fold span) = fold state span (fold_refusal state span)
+react_command state (Unfold id) = drop_fold state id (only_fold (get state.ranges id))
+react_command state (Find from query) =
+    replied state (told_found (option_to_list (first_match query (text_of state.editing) from)))
+react_command state (FindBack before query) =
+    replied state (told_found (option_to_list (last_match query (text_of state.editing) before)))
+react_command state (All query) =
+    replied state (told_found (all_matches query (text_of state.editing)))
 react_command state (Check rule) = post state rule
 react_command state Sync = ask_outside state (still_open state.editing.edits.depth)
 react_command state Save = ask_outside state (still_open state.editing.edits.depth)

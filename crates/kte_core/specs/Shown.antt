@@ -1,5 +1,5 @@
 -- What a document shows of a state.
-use Rattle.std.specs.Prelude.{◌≡◌, ℕ, ◌+◌, false, List, [], ◌++◌, length, Option, None, Some}
+use Rattle.std.specs.Prelude.{◌≡◌, ℕ, ◌+◌, Bool, true, false, List, [], ◌++◌, length, Option, None, Some}
 use Rattle.std.specs.Option.{option_map}
 use Rattle.std.specs.FinMap.{get}
 use Rattle.kte_text.specs.Primitives.{after_all}
@@ -9,11 +9,16 @@ use Rattle.kte_place.specs.Ends.{Ends}
 use Rattle.kte_place.specs.declared.span.Empty.TheVariants.{Void}
 use Rattle.kte_ranges.specs.declared.info.RangeKind.TheVariants as kind
 use Rattle.kte_doc.specs.Documents.{Document, CameBy, KeepsTrail, made_of}
-use Rattle.kte_doc.specs.Standings.{Standing}
+use Rattle.kte_doc.specs.Standings.{Standing, AllStandings, spans_of}
+use Rattle.kte_fold.specs.Folds.{is_fold}
+use Rattle.kte_fold.specs.Laws.{grows_at_no_end, FoldsAreIn}
+use Rattle.kte_fold.specs.Tree.{Outline, KeepsTree}
 use Rattle.kte_command.specs.declared.command.Command.{Command}
+use Rattle.kte_command.specs.declared.command.Command.TheVariants as command
 use Rattle.kte_jobs.specs.Job.{Job}
 use Rattle.kte_core.specs.Editing.{cut_reaction}
 use Rattle.kte_core.specs.State.{Range, State, Reaction, edited}
+use Rattle.kte_core.specs.Folds.{is_fold_kind}
 use Rattle.kte_core.specs.React.{react_command, react, react_by, cut_at, CutsBetween}
 use Rattle.kte_core.specs.declared.present.Present.{Present}
 use Rattle.kte_core.specs.declared.request.Request.{Request}
@@ -49,6 +54,29 @@ pub record Replies (reaction : Reaction) (told : Reply) (document : Document) : 
   pub made : reaction.made ≡ []
   pub leads : IsOf reaction.after document
 
+-- the standing range of a number is a fold, if there is one
+abbrev pub is_standing_fold : Option Standing → Bool
+is_standing_fold None = false
+is_standing_fold (Some standing) = is_fold_kind standing.kind
+
+-- a fold does not grow, and is invalid once it is empty
+pub record IsFoldLike (standing : Standing) : Type 0 where
+  pub expand : standing.expand ≡ grows_at_no_end
+  pub empty : standing.empty ≡ Void
+
+-- The folds are those of the document: their numbers are those of its ranges that are folds, each
+-- of these is one in its behaviour, the valid ones are in the text, and where they stand keeps the
+-- tree
+pub record AreFoldsOf (document : Document) (folds : Outline) : Type 0 where
+  pub numbers : (id : ℕ) → is_fold folds.numbers id ≡ is_standing_fold (get document.ranges id)
+  pub alike : AllStandings (λ s. is_fold_kind s.kind ≡ true → IsFoldLike s) document.ranges
+  pub within : FoldsAreIn document.text (spans_of document.ranges) folds.numbers
+  pub tree : KeepsTree (spans_of document.ranges) folds.numbers folds.inside
+
+-- a change of the document after which the folds are still its own
+abbrev pub KeepsFolds : Document → Document → Type 0
+KeepsFolds old new = (folds : Outline) → AreFoldsOf old folds → AreFoldsOf new folds
+
 -- a document after these primitives: it came further by them, and nothing else changed
 pub record IsAfter (primitives : List Primitive) (old new : Document) : Type 0 where
   pub came : (loaded : List (List ℕ)) (trail : List Primitive) → CameBy loaded trail old
@@ -60,6 +88,7 @@ pub record IsAfter (primitives : List Primitive) (old new : Document) : Type 0 w
       ≡ option_map range_of (get old.ranges id)
   pub next_id : new.next ≡ old.next
   pub locks : new.locks ≡ old.locks
+  pub folds : KeepsFolds old new
 
 -- A step is what comes of a request in a state, and leads to another one. Its reply tells where
 -- memory ran out, if it did
@@ -98,6 +127,7 @@ pub record Shows (state : State) (present : Present) : Type 0 where
   pub document : IsOf state present.doc
   pub edits : present.undo.edits ≡ state.editing.edits
   pub jobs : present.jobs ≡ state.jobs
+  pub folds : AreFoldsOf present.doc present.folds
   pub closed : present.is_closed ≡ state.closed
 
 -- a reply is that of a reaction which makes no primitive, and what is held is that of the state
@@ -114,6 +144,13 @@ pub record Answers (before : State) (seat : ℕ) (request : Request) (step : Ste
   pub after : State
   pub reacts : Reacts before seat request step after
   pub shows : Shows after present
+
+-- the command looks for something in the text: it changes nothing
+abbrev pub IsSearch : Command → Type 0
+IsSearch (command.Find from query) = Unit {0}
+IsSearch (command.FindBack before query) = Unit {0}
+IsSearch (command.All query) = Unit {0}
+IsSearch _ = ⊥
 
 -- what is replied of a number: where its range stands in the document
 abbrev pub told_of : ℕ → Option Standing → Reply

@@ -2,16 +2,17 @@ ghost use Rattle.std.specs.Prelude.{◌≡◌, ◌≢◌, ◌-◌, ◌^◌, ◌<
 ghost use Rattle.kte_command.specs.Commands.{InRange};
 ghost use Rattle.kte_core.specs.Groups.{GroupsFit};
 ghost use Rattle.kte_core.specs.React.{react_command};
-ghost use Rattle.kte_core.specs.Shown.{IsOf, Meets};
+ghost use Rattle.kte_core.specs.Shown.{AreFoldsOf, IsOf, IsSearch, Meets};
 ghost use Rattle.kte_core.specs.declared.reply.Refusal.TheVariants.{RevisionsFull, StillOpen};
 ghost use Rattle.kte_core.specs.declared.reply.Reply.TheVariants.{Asked, Refused};
 
 use crate::edits::Direction;
 use crate::event::Step;
 use crate::reply::{Refusal, Reply};
-use crate::{edits, jobs, ranges, revisions};
+use crate::{edits, folds, jobs, ranges, revisions, searches};
 use kte_command::Command;
 use kte_doc::Doc;
+use kte_fold::Folds;
 use kte_jobs::Jobs;
 use kte_text::Batch;
 use kte_undo::Undo;
@@ -24,6 +25,7 @@ pub(crate) fn carry_out(
     doc: &mut Doc,
     undo: &mut Undo,
     jobs: &mut Jobs,
+    folds: &mut Folds,
     command: &Command,
 ) -> Result<Step, AllocError>
     requires allowed { InRange command.now }
@@ -31,6 +33,7 @@ pub(crate) fn carry_out(
     requires jobs { length jobs.old < 2 ^ 32 - 1 }
     requires ranges { doc.old.next < 2 ^ 63 }
     requires fit { GroupsFit undo.old.edits doc.old.text }
+    requires folds { AreFoldsOf doc.old folds.old }
     ensures meets { IfOk result (λ step. (state : _) → IsOf state doc.old
         → undo.old.edits ≡ state.editing.edits → jobs.old ≡ state.jobs
         → Meets state command.now step doc.new undo.new.edits jobs.new) }
@@ -38,7 +41,10 @@ pub(crate) fn carry_out(
         → undo.old.edits ≡ state.editing.edits
         → (react_command state command.now).reply ≡ Refused refusal
         → ((revision : _) → refusal ≢ RevisionsFull revision) → IsOk result }
+    ensures searched { IsSearch command.now → (doc.new ≡ doc.old) × (undo.new ≡ undo.old)
+        × (jobs.new ≡ jobs.old) × (folds.new ≡ folds.old) }
     ensures fit { (state : _) → IsOf state doc.old → GroupsFit undo.new.edits doc.new.text }
+    ensures folds { (state : _) → IsOf state doc.old → AreFoldsOf doc.new folds.new }
     ensures err { OnErr result (doc.new ≡ doc.old) }
     ensures err_edits { OnErr result (undo.new.edits ≡ undo.old.edits) }
     ensures err_jobs { OnErr result (jobs.new ≡ jobs.old) }
@@ -65,6 +71,11 @@ pub(crate) fn carry_out(
             expand,
             empty,
         } => revisions::land(doc, *revision, *span, *expand, *empty),
+        Command::Fold { span } => folds::make(doc, folds, *span)?,
+        Command::Unfold { id } => folds::remove(doc, folds, *id),
+        Command::Find { from, query } => searches::find(alloc, doc, *from, query)?,
+        Command::FindBack { before, query } => searches::find_back(alloc, doc, *before, query)?,
+        Command::All { query } => searches::all(alloc, doc, query)?,
         Command::Check { rule } => jobs::post(alloc, jobs, rule)?,
         Command::Sync | Command::Save => ask_outside(undo),
     };

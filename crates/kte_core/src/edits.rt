@@ -8,12 +8,13 @@ ghost use Rattle.kte_undo.specs.declared.groups.UndoFault.TheVariants as UndoFau
 ghost use Rattle.kte_command.specs.declared.command.Command.TheVariants as command;
 ghost use Rattle.kte_core.specs.Editing.{noted_all, noted_change};
 ghost use Rattle.kte_core.specs.Groups.{GroupsFit, HasRoom, command_of, gone, group_steps, groups_to};
-ghost use Rattle.kte_core.specs.Shown.{IsAfter, IsOf, IsRefused, Meets};
+ghost use Rattle.kte_core.specs.Shown.{IsAfter, IsOf, IsRefused, KeepsFolds, Meets};
 ghost use Rattle.kte_core.specs.declared.reply.Reply.TheVariants as reply;
 ghost use Rattle.kte_core.specs.declared.reply.Refusal.TheVariants as Refusal;
 
 use crate::event::Step;
 use crate::reply::{Refusal, Reply};
+use kte_buffer::laws::cursors_in_list;
 use kte_doc::Doc;
 use kte_edit::{Change, StepsFault, steps};
 use kte_history::RevisionsFull;
@@ -37,6 +38,7 @@ pub(crate) fn change(
     ensures misfits { (misfit : _) → change_misfit change.now doc.old.text ≡ Some misfit
         → IsOk result }
     ensures fit { GroupsFit undo.new.edits doc.new.text }
+    ensures folds { KeepsFolds doc.old doc.new }
     ensures err { OnErr result (doc.new ≡ doc.old) }
     ensures err_edits { OnErr result (undo.new.edits ≡ undo.old.edits) }
 {
@@ -75,6 +77,7 @@ pub(crate) fn go(
     ensures still_open { 0 < undo.old.edits.depth → IsOk result }
     ensures nothing { groups_to direction undo.old.edits ≡ [] → IsOk result }
     ensures fit { GroupsFit undo.new.edits doc.new.text }
+    ensures folds { KeepsFolds doc.old doc.new }
     ensures err { OnErr result (doc.new ≡ doc.old) }
     ensures err_edits { OnErr result (undo.new.edits ≡ undo.old.edits) }
 {
@@ -342,5 +345,7 @@ fn apply(doc: &mut Doc, primitive: &Primitive) -> Result<Entry, AllocError>
 {
     // Called for its contract alone, which bounds the last column of a removal.
     let _lines = doc.lines();
+    // Called for its contract alone: a place in the text is carried to one in the text after it.
+    cursors_in_list();
     doc.primitive(primitive).map_err(|_| AllocError)
 }

@@ -11,21 +11,23 @@
 //! - `present`: what a core holds of the present state, and which request goes where
 //! - `commands`: the commands of the editor
 //! - `edits`: the commands that change the text, open and close transactions, undo and redo
-//! - `ranges`, `revisions`: the commands on ranges, and those on revisions
+//! - `ranges`, `revisions`, `folds`: the commands on ranges, on revisions and on folds
+//! - `searches`: the commands that look for something in the text
 //! - `jobs`: posting a job, taking it, delivering what its rule finds, and giving it back
 //! - `request`, `reply`, `event`: what is asked, what is replied, and what is kept of both
 //! - `laws`: what follows from the reaction alone
 //!
 //! In specs/, `State` has what a session holds, `Editing` what comes of changes, transactions, undo
-//! and redo, `Jobs` what comes of jobs, `React` what comes of each request, `Requests` which ones
-//! are allowed, `Replay` the session as a replay of its events, `Groups` why groups can be undone
-//! and redone, `Kept` for which events there is always room, and `Shown` what a document shows of
-//! the state.
+//! and redo, `Folds` what folds are, `Jobs` what comes of jobs, `React` what comes of each request,
+//! `Requests` which ones are allowed, `Replay` the session as a replay of its events, `Groups` why
+//! groups can be undone and redone, `Kept` for which events there is always room, and `Shown` what a
+//! document shows of the state.
 #![tactic(auto)]
 
 mod commands;
 mod edits;
 mod event;
+mod folds;
 mod jobs;
 pub mod laws;
 mod present;
@@ -33,6 +35,7 @@ mod ranges;
 mod reply;
 mod request;
 mod revisions;
+mod searches;
 mod session;
 #[cfg(test)]
 mod tests;

@@ -5,7 +5,7 @@ ghost use Rattle.kte_core.specs.Jobs.{AreLocked};
 ghost use Rattle.kte_core.specs.React.{react, react_command};
 ghost use Rattle.kte_core.specs.Requests.{IsAllowed, ranges_of};
 ghost use Rattle.kte_core.specs.Kept.{is_kept, kept_after};
-ghost use Rattle.kte_core.specs.Shown.{Answers, Gives, Shows};
+ghost use Rattle.kte_core.specs.Shown.{Answers, AreFoldsOf, Gives, IsSearch, Shows};
 ghost use Rattle.kte_core.specs.declared.reply.Refusal.TheVariants.{RevisionsFull};
 ghost use Rattle.kte_core.specs.declared.reply.Reply.TheVariants.{Refused};
 ghost use Rattle.kte_core.specs.declared.request.Request.TheVariants.{Cmd, Close};
@@ -17,6 +17,7 @@ use crate::reply::{Refusal, Reply};
 use crate::request::Request;
 use kte_command::Command;
 use kte_doc::Doc;
+use kte_fold::Folds;
 use kte_jobs::Jobs;
 use kte_undo::Undo;
 use std::alloc::{AllocError, Global};
@@ -27,6 +28,7 @@ pub(crate) struct Present {
     pub(crate) doc: Doc,
     pub(crate) undo: Undo,
     pub(crate) jobs: Jobs,
+    pub(crate) folds: Folds,
     pub(crate) is_closed: bool,
 }
 
@@ -70,17 +72,23 @@ pub(crate) fn answer(
     requires jobs { length present.old.jobs < 2 ^ 32 - 1 }
     requires ranges { present.old.doc.next + ranges_of request.now ≤ 2 ^ 63 }
     requires fit { GroupsFit present.old.undo.edits present.old.doc.text }
+    requires folds { AreFoldsOf present.old.doc present.old.folds }
     requires locked { AreLocked present.old.jobs present.old.doc.locks }
     ensures answers { IfOk result (λ step. (state : _) → Shows state present.old
         → Answers state seat request.now step present.new) }
     ensures refused { (state refusal : _) → Shows state present.old
         → (react state seat request.now).reply ≡ Refused refusal
         → ((revision : _) → refusal ≢ RevisionsFull revision) → IsOk result }
+    ensures searched { (command : _) → request.now ≡ Cmd command → IsSearch command
+        → present.new ≡ present.old }
     ensures kept { is_kept present.old.is_closed present.old.jobs seat request.now ≡ true
         → IsOk result }
     ensures fit { (state : _) → Shows state present.old
         → GroupsFit present.new.undo.edits present.new.doc.text }
-    ensures err { OnErr result (present.new ≡ record present.old { undo = present.new.undo }) }
+    ensures folds { (state : _) → Shows state present.old
+        → AreFoldsOf present.new.doc present.new.folds }
+    ensures err { OnErr result (present.new
+        ≡ record present.old { undo = present.new.undo; folds = present.new.folds }) }
     ensures err_edits { OnErr result (present.new.undo.edits ≡ present.old.undo.edits) }
 {
     let reply = match request {
@@ -105,15 +113,20 @@ fn answer_command(
     requires jobs { length present.old.jobs < 2 ^ 32 - 1 }
     requires ranges { present.old.doc.next < 2 ^ 63 }
     requires fit { GroupsFit present.old.undo.edits present.old.doc.text }
+    requires folds { AreFoldsOf present.old.doc present.old.folds }
     ensures answers { IfOk result (λ step. (state seat : _) → Shows state present.old
         → Answers state seat (Cmd command.now) step present.new) }
     ensures closed { present.old.is_closed ≡ true → IsOk result }
+    ensures searched { IsSearch command.now → present.new ≡ present.old }
     ensures refused { (state refusal : _) → Shows state present.old
         → (react_command state command.now).reply ≡ Refused refusal
         → ((revision : _) → refusal ≢ RevisionsFull revision) → IsOk result }
     ensures fit { (state : _) → Shows state present.old
         → GroupsFit present.new.undo.edits present.new.doc.text }
-    ensures err { OnErr result (present.new ≡ record present.old { undo = present.new.undo }) }
+    ensures folds { (state : _) → Shows state present.old
+        → AreFoldsOf present.new.doc present.new.folds }
+    ensures err { OnErr result (present.new
+        ≡ record present.old { undo = present.new.undo; folds = present.new.folds }) }
     ensures err_edits { OnErr result (present.new.undo.edits ≡ present.old.undo.edits) }
 {
     if present.is_closed {
@@ -124,6 +137,7 @@ fn answer_command(
         &mut present.doc,
         &mut present.undo,
         &mut present.jobs,
+        &mut present.folds,
         command,
     )
 }

@@ -1,8 +1,13 @@
-use kte_place::Span;
+ghost use Rattle.std.specs.Prelude.{◌≡◌, IfOk, OnErr};
+ghost use Rattle.kte_core.specs.declared.reply.Reply.TheVariants.{Found};
+
+use kte_fold::FoldRefused;
+use kte_place::{Span, Spans};
 use kte_text::Misfit;
+use std::alloc::{AllocError, Global};
 
 /// The reply to a request.
-#[derive(Clone, Copy, Debug, PartialEq, Eq)]
+#[derive(Debug, Drop)]
 pub enum Reply {
     /// The change, the undo or the redo was made in `steps` primitives, which led to `revision`.
     /// `depth` is the number of open transactions, each in the one before.
@@ -43,6 +48,10 @@ pub enum Reply {
     Landed {
         span: Option<Span>,
     },
+    /// The matches of a search, from left to right: one, or for all at most 4,096.
+    Found {
+        spans: Spans,
+    },
     /// The job was posted, and waits.
     Posted {
         job: u32,
@@ -74,6 +83,66 @@ pub enum Reply {
     Refused(Refusal),
 }
 
+impl Reply {
+    /// Returns an equal reply. Only matches allocate. Fails if out of memory.
+    pub fn copy(&self, alloc: Global) -> Result<Reply, AllocError>
+        ensures equal { IfOk result (λ reply. reply ≡ self.now) }
+        ensures found { OnErr result ((spans : _) × (self.now ≡ Found spans)) }
+    {
+        Ok(match self {
+            Reply::Edited {
+                steps,
+                revision,
+                depth,
+            } => Reply::Edited {
+                steps: *steps,
+                revision: *revision,
+                depth: *depth,
+            },
+            Reply::Cut {
+                steps,
+                revision,
+                depth,
+            } => Reply::Cut {
+                steps: *steps,
+                revision: *revision,
+                depth: *depth,
+            },
+            Reply::Depth { depth } => Reply::Depth { depth: *depth },
+            Reply::Range { id, span } => Reply::Range {
+                id: *id,
+                span: *span,
+            },
+            Reply::Dropped { id } => Reply::Dropped { id: *id },
+            Reply::Locked { revision } => Reply::Locked {
+                revision: *revision,
+            },
+            Reply::Unlocked { revision } => Reply::Unlocked {
+                revision: *revision,
+            },
+            Reply::Landed { span } => Reply::Landed { span: *span },
+            Reply::Found { spans } => Reply::Found {
+                spans: spans.copy(alloc)?,
+            },
+            Reply::Posted { job } => Reply::Posted { job: *job },
+            Reply::Asked => Reply::Asked,
+            Reply::Took { job, revision } => Reply::Took {
+                job: *job,
+                revision: *revision,
+            },
+            Reply::Delivered { job, first, count } => Reply::Delivered {
+                job: *job,
+                first: *first,
+                count: *count,
+            },
+            Reply::Returned { job } => Reply::Returned { job: *job },
+            Reply::Noted => Reply::Noted,
+            Reply::Closed => Reply::Closed,
+            Reply::Refused(refusal) => Reply::Refused(*refusal),
+        })
+    }
+}
+
 /// Why a request is refused.
 #[derive(Clone, Copy, Debug, PartialEq, Eq)]
 pub enum Refusal {
@@ -89,8 +158,14 @@ pub enum Refusal {
     /// The primitives would lead past the last revision that may be made. `revision` is the present
     /// one.
     RevisionsFull { revision: u64 },
-    /// There is no range of this number.
+    /// There is no range of this number; a fold is none.
     NoRange { id: u64 },
+    /// There is no fold of this number.
+    NoFold { id: u64 },
+    /// The span may not be folded.
+    Fold(FoldRefused),
+    /// Nothing matches the query there.
+    NoMatch,
     /// The revision is neither locked nor the present one. `oldest` is the oldest locked one, if
     /// any is.
     NotLocked { revision: u64, oldest: Option<u64> },

@@ -2,7 +2,7 @@ ghost use Rattle.std.specs.Prelude.{◌≡◌, IfOk, OnErr};
 ghost use Rattle.kte_place.specs.Ends.{SpanIsInReach};
 ghost use Rattle.kte_command.specs.declared.command.Command.TheVariants.{Lock, Unlock, Land};
 ghost use Rattle.kte_core.specs.React.{react_command};
-ghost use Rattle.kte_core.specs.Shown.{IsOf, Replies};
+ghost use Rattle.kte_core.specs.Shown.{IsOf, KeepsFolds, Replies};
 
 use crate::reply::{Refusal, Reply};
 use kte_doc::Doc;
@@ -14,6 +14,7 @@ use std::alloc::AllocError;
 pub(crate) fn lock(doc: &mut Doc) -> Result<Reply, AllocError>
     ensures replies { IfOk result (λ reply. (state : _) → IsOf state doc.old
         → Replies (react_command state Lock) reply doc.new) }
+    ensures folds { KeepsFolds doc.old doc.new }
     ensures err { OnErr result (doc.new ≡ doc.old) }
 {
     let revision = doc.lock(Owner::Editor)?;
@@ -22,8 +23,9 @@ pub(crate) fn lock(doc: &mut Doc) -> Result<Reply, AllocError>
 
 /// Removes one of the editor's locks.
 pub(crate) fn unlock(doc: &mut Doc, revision: u64) -> Reply
-    ensures { (state : _) → IsOf state doc.old
+    ensures replies { (state : _) → IsOf state doc.old
         → Replies (react_command state (Unlock revision)) result doc.new }
+    ensures folds { KeepsFolds doc.old doc.new }
 {
     match doc.unlock(Owner::Editor, revision) {
         Ok(()) => Reply::Unlocked { revision },

@@ -1,4 +1,4 @@
-ghost use Rattle.std.specs.Prelude.{◌≡◌, ◌≢◌, ◌+◌, ◌-◌, ◌^◌, ◌<◌, ◌≤◌, true, false, [], ◌∷◌, ◌++◌, length, Some, IfOk, IfSome, IsOk, OnOk, OnErr};
+ghost use Rattle.std.specs.Prelude.{ℕ, ◌≡◌, ◌≢◌, ◌+◌, ◌-◌, ◌^◌, ◌<◌, ◌≤◌, true, false, [], ◌∷◌, ◌++◌, length, Some, IfOk, IfSome, IsOk, OnOk, OnErr};
 ghost use Rattle.std.specs.Option.{option_copied};
 ghost use Rattle.kte_find.specs.Rule.{HasWord};
 ghost use Rattle.kte_jobs.specs.Jobs.{least_waiting, rule_of};
@@ -11,6 +11,7 @@ use crate::present::{Present, answer, kept_after};
 use crate::request::Request;
 use kte_doc::Doc;
 use kte_find::Rule;
+use kte_fold::Folds;
 use kte_jobs::Jobs;
 use kte_text::{Eol, Lines, Loaded, Text, save};
 use kte_undo::Undo;
@@ -46,7 +47,10 @@ impl Model for Core {
 
 impl Core {
     ghost use Rattle.kte_undo.specs.Steps.{redo_of};
+    ghost use Rattle.kte_fold.specs.Folds.{is_fold};
+    ghost use Rattle.kte_fold.specs.Tree.{KeepsTree};
     ghost use Rattle.kte_core.specs.Editing.{text_of, saved_form};
+    ghost use Rattle.kte_core.specs.Folds.{folds_of, spans_now};
     ghost use Rattle.kte_core.specs.Replay.{beginning, Answered, present, primitives_in, transactions};
 
     /// Creates a session at revision 0, without ranges and jobs. At most `revisions` primitives can
@@ -68,6 +72,7 @@ impl Core {
                 doc,
                 undo: Undo::new(alloc),
                 jobs: Jobs::new(alloc),
+                folds: Folds::new(alloc),
                 is_closed: false,
             },
             journal,
@@ -101,8 +106,9 @@ impl Core {
         let is_kept = self.present.keeps_room(seat, &request);
         make_room(&mut self.journal, self.kept, is_kept)?;
         let step = answer(alloc, &mut self.present, seat, &request)?;
-        self.kept = kept_after(self.kept, &step.reply);
-        self.journal.note(seat, request, step.reply);
+        let reply = step.reply.copy(alloc)?;
+        self.kept = kept_after(self.kept, &reply);
+        self.journal.note(seat, request, reply);
         Ok(step)
     }
 
@@ -123,6 +129,16 @@ impl Core {
         ensures { IsOf (present self.now) result.now }
     {
         &self.present.doc
+    }
+
+    /// Returns the folds, whose spans are those of the ranges of [`Core::doc`].
+    pub fn folds(&self) -> &Folds
+        ensures numbers { (id : ℕ) → is_fold result.now.numbers id
+            ≡ is_fold (folds_of (present self.now).ranges) id }
+        ensures tree { KeepsTree (spans_now (present self.now)) result.now.numbers
+            result.now.inside }
+    {
+        &self.present.folds
     }
 
     /// Returns how many transactions are open, each in the one before.

@@ -1,5 +1,5 @@
 ghost use Rattle.std.specs.Prelude.{◌≡◌, ◌≤◌, ◌^◌, [], ◌∷◌, IfOk};
-ghost use Rattle.kte_command.specs.Commands.{InRange};
+ghost use Rattle.kte_command.specs.Commands.{HasPattern, InRange};
 ghost use Rattle.kte_core.specs.Requests.{IsAllowed, ranges_of};
 ghost use Rattle.kte_place.specs.Examples.{span};
 
@@ -7,8 +7,10 @@ use crate::{Core, Event, Journal, OutsideCall, Refusal, Reply, Request, Step};
 use kte_command::Command;
 use kte_edit::Change;
 use kte_find::Rule;
+use kte_fold::FoldRefused;
 use kte_place::{Place, Span, Spans};
-use kte_text::{Lines, Misfit, load};
+use kte_search::Query;
+use kte_text::{Line, Lines, Misfit, load};
 use std::alloc::Global;
 use std::process::Abort;
 use std::test::Fail;
@@ -64,6 +66,14 @@ fn edited(steps: u64, revision: u64) -> Reply {
     }
 }
 
+/// Checks a reply by its debug text: replies have no equality.
+fn assert_reply(rt: &impl Abort, alloc: Global, reply: &Reply, want: &Reply) -> Result<(), Fail> {
+    let shown = format!(in alloc; "{reply:?}")?;
+    let want = format!(in alloc; "{want:?}")?;
+    assert_eq!(rt; shown.as_str(), want.as_str());
+    Ok(())
+}
+
 /// The present text of a core, with `|` in front of each line.
 fn shown(alloc: Global, core: &Core) -> Result<String, Fail> {
     let doc = core.doc();
@@ -87,7 +97,12 @@ fn steps_of_an_insertion_is_made_and_is_an_event(
     alloc: Global,
     core: &mut Core,
 ) -> Result<(), Fail> {
-    assert_eq!(rt; insert(alloc, core, place(0, 5), b"!")?, edited(1, 1));
+    assert_reply(
+        rt,
+        alloc,
+        &insert(alloc, core, place(0, 5), b"!")?,
+        &edited(1, 1),
+    )?;
     assert_eq!(rt; shown(alloc, core)?.as_str(), "|hello!|");
     assert_eq!(rt; core.copy_text(alloc)?.len(), 2);
     assert_eq!(rt; core.doc().revision(), 1);
@@ -95,7 +110,7 @@ fn steps_of_an_insertion_is_made_and_is_an_event(
     assert_eq!(rt; core.journal().len(), 1);
     let event = core.journal().get(0);
     assert_eq!(rt; event.seat, 0);
-    assert_eq!(rt; event.reply, edited(1, 1));
+    assert_reply(rt, alloc, &event.reply, &edited(1, 1))?;
     Ok(())
 }
 
@@ -112,12 +127,17 @@ fn steps_of_a_refused_change_is_an_event_and_changes_nothing(
     core: &mut Core,
 ) -> Result<(), Fail> {
     let refused = Reply::Refused(Refusal::Misfit(Misfit::NoColumn { line: 0, column: 6 }));
-    assert_eq!(rt; insert(alloc, core, place(0, 6), b"!")?, refused);
+    assert_reply(
+        rt,
+        alloc,
+        &insert(alloc, core, place(0, 6), b"!")?,
+        &refused,
+    )?;
     assert_eq!(rt; shown(alloc, core)?.as_str(), "|hello|");
     assert_eq!(rt; core.undo_counts(), (0, 0));
 
     assert_eq!(rt; core.journal().len(), 1);
-    assert_eq!(rt; core.journal().get(0).reply, refused);
+    assert_reply(rt, alloc, &core.journal().get(0).reply, &refused)?;
     Ok(())
 }
 
@@ -148,13 +168,15 @@ fn steps_of_a_span_is_judged_at_its_start_first(
     ];
     for (from, to, misfit) in table {
         let refused = Reply::Refused(Refusal::Misfit(misfit));
-        assert_eq!(rt; remove(alloc, core, from, to)?, refused);
+        assert_reply(rt, alloc, &remove(alloc, core, from, to)?, &refused)?;
     }
     assert_eq!(rt; shown(alloc, core)?.as_str(), "|ab|cd");
-    assert_eq!(rt;
-        remove(alloc, core, place(0, 0), place(1, 2))?,
-        edited(3, 3)
-    );
+    assert_reply(
+        rt,
+        alloc,
+        &remove(alloc, core, place(0, 0), place(1, 2))?,
+        &edited(3, 3),
+    )?;
     assert_eq!(rt; shown(alloc, core)?.as_str(), "|");
     Ok(())
 }
@@ -171,7 +193,12 @@ fn steps_of_an_insertion_of_nothing_makes_no_revision(
     alloc: Global,
     core: &mut Core,
 ) -> Result<(), Fail> {
-    assert_eq!(rt; insert(alloc, core, place(0, 0), b"")?, edited(0, 0));
+    assert_reply(
+        rt,
+        alloc,
+        &insert(alloc, core, place(0, 0), b"")?,
+        &edited(0, 0),
+    )?;
     assert_eq!(rt; core.undo_counts(), (0, 0));
     assert_eq!(rt; core.journal().len(), 1);
     Ok(())
@@ -190,10 +217,10 @@ fn steps_of_no_revision_is_made_past_the_limit(
     core: &mut Core,
 ) -> Result<(), Fail> {
     let full = Reply::Refused(Refusal::RevisionsFull { revision: 2 });
-    assert_eq!(rt; wrap(alloc, core)?, edited(1, 1));
-    assert_eq!(rt; wrap(alloc, core)?, edited(1, 2));
-    assert_eq!(rt; wrap(alloc, core)?, full);
-    assert_eq!(rt; ask(alloc, core, Command::Undo)?.reply, full);
+    assert_reply(rt, alloc, &wrap(alloc, core)?, &edited(1, 1))?;
+    assert_reply(rt, alloc, &wrap(alloc, core)?, &edited(1, 2))?;
+    assert_reply(rt, alloc, &wrap(alloc, core)?, &full)?;
+    assert_reply(rt, alloc, &ask(alloc, core, Command::Undo)?.reply, &full)?;
     assert_eq!(rt; shown(alloc, core)?.as_str(), "|||");
     assert_eq!(rt; core.undo_counts(), (2, 0));
     assert_eq!(rt; core.journal().len(), 4);
@@ -212,7 +239,12 @@ fn steps_of_a_text_of_two_lines_is_inserted(
     alloc: Global,
     core: &mut Core,
 ) -> Result<(), Fail> {
-    assert_eq!(rt; insert(alloc, core, place(0, 1), b"a\nb")?, edited(3, 3));
+    assert_reply(
+        rt,
+        alloc,
+        &insert(alloc, core, place(0, 1), b"a\nb")?,
+        &edited(3, 3),
+    )?;
     assert_eq!(rt; shown(alloc, core)?.as_str(), "|xa|by");
     Ok(())
 }
@@ -234,12 +266,22 @@ fn steps_of_a_span_over_three_lines_is_replaced(
         text: load(alloc, b"z")?.text,
     };
     let step = ask(alloc, core, Command::Edit { change })?;
-    assert_eq!(rt; step.reply, edited(5, 5));
+    assert_reply(rt, alloc, &step.reply, &edited(5, 5))?;
     assert_eq!(rt; step.made.len(), 5);
     assert_eq!(rt; shown(alloc, core)?.as_str(), "|zc");
-    assert_eq!(rt; ask(alloc, core, Command::Undo)?.reply, edited(5, 10));
+    assert_reply(
+        rt,
+        alloc,
+        &ask(alloc, core, Command::Undo)?.reply,
+        &edited(5, 10),
+    )?;
     assert_eq!(rt; shown(alloc, core)?.as_str(), "|a|b|c");
-    assert_eq!(rt; ask(alloc, core, Command::Redo)?.reply, edited(5, 15));
+    assert_reply(
+        rt,
+        alloc,
+        &ask(alloc, core, Command::Redo)?.reply,
+        &edited(5, 15),
+    )?;
     assert_eq!(rt; shown(alloc, core)?.as_str(), "|zc");
     Ok(())
 }
@@ -257,16 +299,28 @@ fn steps_of_a_change_is_undone_and_redone_once(
     core: &mut Core,
 ) -> Result<(), Fail> {
     let nothing = Reply::Refused(Refusal::Nothing);
-    assert_eq!(rt;
-        remove(alloc, core, place(0, 0), place(0, 1))?,
-        edited(1, 1)
-    );
-    assert_eq!(rt; ask(alloc, core, Command::Undo)?.reply, edited(1, 2));
+    assert_reply(
+        rt,
+        alloc,
+        &remove(alloc, core, place(0, 0), place(0, 1))?,
+        &edited(1, 1),
+    )?;
+    assert_reply(
+        rt,
+        alloc,
+        &ask(alloc, core, Command::Undo)?.reply,
+        &edited(1, 2),
+    )?;
     assert_eq!(rt; shown(alloc, core)?.as_str(), "|ab");
     assert_eq!(rt; core.undo_counts(), (0, 1));
-    assert_eq!(rt; ask(alloc, core, Command::Undo)?.reply, nothing);
-    assert_eq!(rt; ask(alloc, core, Command::Redo)?.reply, edited(1, 3));
-    assert_eq!(rt; ask(alloc, core, Command::Redo)?.reply, nothing);
+    assert_reply(rt, alloc, &ask(alloc, core, Command::Undo)?.reply, &nothing)?;
+    assert_reply(
+        rt,
+        alloc,
+        &ask(alloc, core, Command::Redo)?.reply,
+        &edited(1, 3),
+    )?;
+    assert_reply(rt, alloc, &ask(alloc, core, Command::Redo)?.reply, &nothing)?;
     assert_eq!(rt; shown(alloc, core)?.as_str(), "|b");
     assert_eq!(rt; core.undo_counts(), (1, 0));
     Ok(())
@@ -292,19 +346,23 @@ fn steps_of_nothing_is_undone_in_an_open_transaction(
     };
     let open = Reply::Refused(Refusal::StillOpen { depth: 1 });
     let not_open = Reply::Refused(Refusal::NotOpen);
-    assert_eq!(rt; ask(alloc, core, Command::Undo)?.reply, nothing);
-    assert_eq!(rt;
-        ask(alloc, core, Command::Begin)?.reply,
-        Reply::Depth { depth: 1 }
-    );
-    assert_eq!(rt; insert(alloc, core, place(0, 0), b"a")?, inside);
+    assert_reply(rt, alloc, &ask(alloc, core, Command::Undo)?.reply, &nothing)?;
+    assert_reply(
+        rt,
+        alloc,
+        &ask(alloc, core, Command::Begin)?.reply,
+        &Reply::Depth { depth: 1 },
+    )?;
+    assert_reply(rt, alloc, &insert(alloc, core, place(0, 0), b"a")?, &inside)?;
     assert_eq!(rt; core.depth(), 1);
-    assert_eq!(rt; ask(alloc, core, Command::Undo)?.reply, open);
-    assert_eq!(rt;
-        ask(alloc, core, Command::End)?.reply,
-        Reply::Depth { depth: 0 }
-    );
-    assert_eq!(rt; ask(alloc, core, Command::End)?.reply, not_open);
+    assert_reply(rt, alloc, &ask(alloc, core, Command::Undo)?.reply, &open)?;
+    assert_reply(
+        rt,
+        alloc,
+        &ask(alloc, core, Command::End)?.reply,
+        &Reply::Depth { depth: 0 },
+    )?;
+    assert_reply(rt, alloc, &ask(alloc, core, Command::End)?.reply, &not_open)?;
     assert_eq!(rt; core.undo_counts(), (1, 0));
     assert_eq!(rt; core.depth(), 0);
     Ok(())
@@ -322,13 +380,28 @@ fn steps_of_only_a_group_that_is_kept_empties_what_may_be_redone(
     alloc: Global,
     core: &mut Core,
 ) -> Result<(), Fail> {
-    assert_eq!(rt; wrap(alloc, core)?, edited(1, 1));
-    assert_eq!(rt; ask(alloc, core, Command::Undo)?.reply, edited(1, 2));
+    assert_reply(rt, alloc, &wrap(alloc, core)?, &edited(1, 1))?;
+    assert_reply(
+        rt,
+        alloc,
+        &ask(alloc, core, Command::Undo)?.reply,
+        &edited(1, 2),
+    )?;
     let _ = ask(alloc, core, Command::Begin)?;
     let _ = ask(alloc, core, Command::End)?;
-    assert_eq!(rt; insert(alloc, core, place(0, 0), b"")?, edited(0, 2));
+    assert_reply(
+        rt,
+        alloc,
+        &insert(alloc, core, place(0, 0), b"")?,
+        &edited(0, 2),
+    )?;
     assert_eq!(rt; core.undo_counts(), (0, 1));
-    assert_eq!(rt; insert(alloc, core, place(0, 0), b"x")?, edited(1, 3));
+    assert_reply(
+        rt,
+        alloc,
+        &insert(alloc, core, place(0, 0), b"x")?,
+        &edited(1, 3),
+    )?;
     assert_eq!(rt; core.undo_counts(), (1, 0));
     assert_eq!(rt; shown(alloc, core)?.as_str(), "|xab");
     Ok(())
@@ -349,17 +422,32 @@ fn steps_of_a_finding_lands_from_the_revision_at_which_its_job_was_taken(
     core: &mut Core,
 ) -> Result<(), Fail> {
     let check = Command::Check { rule: Rule::Blanks };
-    assert_eq!(rt; ask(alloc, core, check)?.reply, Reply::Posted { job: 1 });
+    assert_reply(
+        rt,
+        alloc,
+        &ask(alloc, core, check)?.reply,
+        &Reply::Posted { job: 1 },
+    )?;
     assert!(rt; matches!(core.rule(1), Some(Rule::Blanks)));
     let took = Reply::Took {
         job: 1,
         revision: 0,
     };
-    assert_eq!(rt; step(alloc, core, 1, Request::Take)?.reply, took);
+    assert_reply(
+        rt,
+        alloc,
+        &step(alloc, core, 1, Request::Take)?.reply,
+        &took,
+    )?;
     assert_eq!(rt; core.waiting(), None);
     let removed = remove(alloc, core, place(0, 1), place(1, 3))?;
-    assert_eq!(rt; removed, edited(2, 2));
-    assert_eq!(rt; ask(alloc, core, Command::Undo)?.reply, edited(2, 4));
+    assert_reply(rt, alloc, &removed, &edited(2, 2))?;
+    assert_reply(
+        rt,
+        alloc,
+        &ask(alloc, core, Command::Undo)?.reply,
+        &edited(2, 4),
+    )?;
     let saved = core.saved_form(alloc)?;
     assert_eq!(rt; saved.as_slice(), b"x\na  ".as_slice());
     let delivered = Reply::Delivered {
@@ -367,10 +455,10 @@ fn steps_of_a_finding_lands_from_the_revision_at_which_its_job_was_taken(
         first: 1,
         count: 1,
     };
-    assert_eq!(rt; deliver(alloc, core, 1, 1)?, delivered);
+    assert_reply(rt, alloc, &deliver(alloc, core, 1, 1)?, &delivered)?;
     let invalid = Reply::Range { id: 1, span: None };
     let show = Command::ShowRange { id: 1 };
-    assert_eq!(rt; ask(alloc, core, show)?.reply, invalid);
+    assert_reply(rt, alloc, &ask(alloc, core, show)?.reply, &invalid)?;
     Ok(())
 }
 
@@ -411,17 +499,42 @@ fn steps_of_a_job_is_refused_to_other_seats(
         revision: 0,
     };
     let returned = Reply::Returned { job: 1 };
-    assert_eq!(rt; step(alloc, core, 1, Request::Take)?.reply, no_job);
-    assert_eq!(rt; give_back(alloc, core, 1)?, not_taken);
+    assert_reply(
+        rt,
+        alloc,
+        &step(alloc, core, 1, Request::Take)?.reply,
+        &no_job,
+    )?;
+    assert_reply(rt, alloc, &give_back(alloc, core, 1)?, &not_taken)?;
     let check = Command::Check { rule: Rule::Pairs };
-    assert_eq!(rt; ask(alloc, core, check)?.reply, Reply::Posted { job: 1 });
-    assert_eq!(rt; give_back(alloc, core, 1)?, not_taken);
-    assert_eq!(rt; step(alloc, core, 1, Request::Take)?.reply, took);
-    assert_eq!(rt; give_back(alloc, core, 2)?, not_taken);
-    assert_eq!(rt; deliver(alloc, core, 2, 1)?, not_taken);
-    assert_eq!(rt; give_back(alloc, core, 1)?, returned);
-    assert_eq!(rt; step(alloc, core, 2, Request::Take)?.reply, took);
-    assert_eq!(rt; step(alloc, core, 1, Request::Take)?.reply, no_job);
+    assert_reply(
+        rt,
+        alloc,
+        &ask(alloc, core, check)?.reply,
+        &Reply::Posted { job: 1 },
+    )?;
+    assert_reply(rt, alloc, &give_back(alloc, core, 1)?, &not_taken)?;
+    assert_reply(
+        rt,
+        alloc,
+        &step(alloc, core, 1, Request::Take)?.reply,
+        &took,
+    )?;
+    assert_reply(rt, alloc, &give_back(alloc, core, 2)?, &not_taken)?;
+    assert_reply(rt, alloc, &deliver(alloc, core, 2, 1)?, &not_taken)?;
+    assert_reply(rt, alloc, &give_back(alloc, core, 1)?, &returned)?;
+    assert_reply(
+        rt,
+        alloc,
+        &step(alloc, core, 2, Request::Take)?.reply,
+        &took,
+    )?;
+    assert_reply(
+        rt,
+        alloc,
+        &step(alloc, core, 1, Request::Take)?.reply,
+        &no_job,
+    )?;
     Ok(())
 }
 
@@ -445,19 +558,49 @@ fn steps_of_a_closed_session_refuses_each_command(
     let open = Reply::Refused(Refusal::StillOpen { depth: 1 });
     let closed = Reply::Refused(Refusal::Closed);
     let no_job = Reply::Refused(Refusal::NoJob { closed: true });
-    assert_eq!(rt; ask(alloc, core, Command::Sync)?.reply, Reply::Asked);
-    assert_eq!(rt; ask(alloc, core, Command::Save)?.reply, Reply::Asked);
+    assert_reply(
+        rt,
+        alloc,
+        &ask(alloc, core, Command::Sync)?.reply,
+        &Reply::Asked,
+    )?;
+    assert_reply(
+        rt,
+        alloc,
+        &ask(alloc, core, Command::Save)?.reply,
+        &Reply::Asked,
+    )?;
     let _ = ask(alloc, core, Command::Begin)?;
-    assert_eq!(rt; ask(alloc, core, Command::Sync)?.reply, open);
-    assert_eq!(rt; ask(alloc, core, Command::Save)?.reply, open);
-    assert_eq!(rt; step(alloc, core, 0, Request::Close)?.reply, Reply::Closed);
+    assert_reply(rt, alloc, &ask(alloc, core, Command::Sync)?.reply, &open)?;
+    assert_reply(rt, alloc, &ask(alloc, core, Command::Save)?.reply, &open)?;
+    assert_reply(
+        rt,
+        alloc,
+        &step(alloc, core, 0, Request::Close)?.reply,
+        &Reply::Closed,
+    )?;
     assert!(rt; core.is_closed());
-    assert_eq!(rt; step(alloc, core, 0, Request::Close)?.reply, closed);
-    assert_eq!(rt; ask(alloc, core, Command::End)?.reply, closed);
-    assert_eq!(rt; step(alloc, core, 1, Request::Take)?.reply, no_job);
+    assert_reply(
+        rt,
+        alloc,
+        &step(alloc, core, 0, Request::Close)?.reply,
+        &closed,
+    )?;
+    assert_reply(rt, alloc, &ask(alloc, core, Command::End)?.reply, &closed)?;
+    assert_reply(
+        rt,
+        alloc,
+        &step(alloc, core, 1, Request::Take)?.reply,
+        &no_job,
+    )?;
     let (call, ok) = (OutsideCall::Save, true);
     let outcome = Request::Outcome { call, ok };
-    assert_eq!(rt; step(alloc, core, 0, outcome)?.reply, Reply::Noted);
+    assert_reply(
+        rt,
+        alloc,
+        &step(alloc, core, 0, outcome)?.reply,
+        &Reply::Noted,
+    )?;
     Ok(())
 }
 
@@ -473,7 +616,179 @@ fn a_journal_keeps_its_events(rt: HostRuntime) -> Result<(), Fail> {
         })?;
     }
     assert_eq!(rt; journal.len(), 2);
-    assert_eq!(rt; journal.get(0).reply, Reply::Dropped { id: 7 });
-    assert_eq!(rt; journal.get(1).reply, Reply::Dropped { id: 8 });
+    assert_reply(
+        &rt,
+        rt.alloc(),
+        &journal.get(0).reply,
+        &Reply::Dropped { id: 7 },
+    )?;
+    assert_reply(
+        &rt,
+        rt.alloc(),
+        &journal.get(1).reply,
+        &Reply::Dropped { id: 8 },
+    )?;
     Ok(())
+}
+
+#[test]
+fn a_fold_hides_lines_and_crosses_no_other(rt: HostRuntime) -> Result<(), Fail> {
+    let alloc = rt.alloc();
+    let mut core = Core::new(alloc, load(alloc, b"a\nb\nc\nd")?, 99)?;
+    steps_of_a_fold_hides_lines_and_crosses_no_other(&rt, alloc, &mut core)
+}
+
+fn steps_of_a_fold_hides_lines_and_crosses_no_other(
+    rt: &impl Abort,
+    alloc: Global,
+    core: &mut Core,
+) -> Result<(), Fail> {
+    let stands = Reply::Range {
+        id: 1,
+        span: Some(Span::new(place(0, 1), place(2, 0))),
+    };
+    assert_reply(
+        rt,
+        alloc,
+        &fold(alloc, core, place(0, 1), place(2, 0))?,
+        &stands,
+    )?;
+    let table = [
+        (place(1, 0), place(3, 1), FoldRefused::Crosses { id: 1 }),
+        (place(1, 1), place(1, 1), FoldRefused::EmptySpan),
+        (place(0, 0), place(4, 0), FoldRefused::OutOfText),
+        (place(0, 2), place(0, 2), FoldRefused::OutOfText),
+    ];
+    for (from, to, cause) in table {
+        let refused = Reply::Refused(Refusal::Fold(cause));
+        assert_reply(rt, alloc, &fold(alloc, core, from, to)?, &refused)?;
+    }
+    let no_range = Reply::Refused(Refusal::NoRange { id: 1 });
+    let show = Command::ShowRange { id: 1 };
+    let drop = Command::DropRange { id: 1 };
+    assert_reply(rt, alloc, &ask(alloc, core, show)?.reply, &no_range)?;
+    assert_reply(rt, alloc, &ask(alloc, core, drop)?.reply, &no_range)?;
+    assert_eq!(rt; hidden(alloc, core)?.as_str(), "-++-");
+
+    // Removing the fold's text makes it invalid; it is a fold yet.
+    assert_reply(
+        rt,
+        alloc,
+        &remove(alloc, core, place(0, 1), place(2, 0))?,
+        &edited(3, 3),
+    )?;
+    assert_eq!(rt; hidden(alloc, core)?.as_str(), "--");
+    let no_fold = Reply::Refused(Refusal::NoFold { id: 1 });
+    let dropped = Reply::Dropped { id: 1 };
+    assert_reply(
+        rt,
+        alloc,
+        &ask(alloc, core, Command::Unfold { id: 1 })?.reply,
+        &dropped,
+    )?;
+    assert_reply(
+        rt,
+        alloc,
+        &ask(alloc, core, Command::Unfold { id: 1 })?.reply,
+        &no_fold,
+    )?;
+    assert_eq!(rt; core.doc().next_id(), 2);
+    Ok(())
+}
+
+/// Asks for a fold between two places near the start of the text.
+fn fold(alloc: Global, core: &mut Core, from: Place, to: Place) -> Result<Reply, Fail> {
+    let span = Span::new(from, to);
+    let (start, end) = (span.start, span.end);
+    if start.line > 99 || start.column > 99 || end.line > 99 || end.column > 99 {
+        return Err(Fail::from("too far"));
+    }
+    Ok(ask(alloc, core, Command::Fold { span })?.reply)
+}
+
+/// The lines of a core, a `+` for each hidden one and a `-` for each other.
+fn hidden(alloc: Global, core: &Core) -> Result<String, Fail> {
+    let mut shown = String::new(alloc);
+    for line in 0..core.doc().lines() {
+        let mark = if core.folds().hidden(core.doc(), line) {
+            '+'
+        } else {
+            '-'
+        };
+        shown.push(mark)?;
+    }
+    Ok(shown)
+}
+
+#[test]
+fn matches_are_found(rt: HostRuntime) -> Result<(), Fail> {
+    let alloc = rt.alloc();
+    let mut core = Core::new(alloc, load(alloc, b"foo Foo food")?, 99)?;
+    steps_of_matches_are_found(&rt, alloc, &mut core)
+}
+
+fn steps_of_matches_are_found(rt: &impl Abort, alloc: Global, core: &mut Core) -> Result<(), Fail> {
+    let all = Command::All {
+        query: foo(rt, alloc, true, true)?,
+    };
+    let mut spans = one(alloc, 0)?;
+    spans.push(Span::new(place(0, 4), place(0, 7)))?;
+    assert_reply(
+        rt,
+        alloc,
+        &ask(alloc, core, all)?.reply,
+        &Reply::Found { spans },
+    )?;
+    let find = Command::Find {
+        from: Place { line: 0, column: 1 },
+        query: foo(rt, alloc, false, false)?,
+    };
+    let spans = one(alloc, 8)?;
+    assert_reply(
+        rt,
+        alloc,
+        &ask(alloc, core, find)?.reply,
+        &Reply::Found { spans },
+    )?;
+    let find_back = Command::FindBack {
+        before: Place { line: 0, column: 8 },
+        query: foo(rt, alloc, true, false)?,
+    };
+    let spans = one(alloc, 4)?;
+    assert_reply(
+        rt,
+        alloc,
+        &ask(alloc, core, find_back)?.reply,
+        &Reply::Found { spans },
+    )?;
+    let find = Command::Find {
+        from: Place { line: 0, column: 9 },
+        query: foo(rt, alloc, false, false)?,
+    };
+    let no_match = Reply::Refused(Refusal::NoMatch);
+    assert_reply(rt, alloc, &ask(alloc, core, find)?.reply, &no_match)?;
+    assert_eq!(rt; core.journal().len(), 4);
+    Ok(())
+}
+
+/// A search for `foo`.
+fn foo(rt: &impl Abort, alloc: Global, fold_case: bool, whole: bool) -> Result<Query, Fail>
+    ensures { IfOk result (λ query. HasPattern query) }
+{
+    let pattern = Line::from_utf8(alloc, "foo")?;
+    assert!(rt; !pattern.is_empty());
+    Ok(Query {
+        pattern,
+        fold_case,
+        whole,
+    })
+}
+
+/// The span of three units of the first line from a column on.
+fn one(alloc: Global, column: u64) -> Result<Spans, Fail>
+    requires { column ≤ 99 }
+{
+    let mut spans = Spans::new(alloc);
+    spans.push(Span::new(place(0, column), place(0, column + 3)))?;
+    Ok(spans)
 }

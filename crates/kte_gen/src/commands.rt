@@ -4,7 +4,7 @@ ghost use Rattle.std.specs.List.{All};
 ghost use Rattle.kte_gen.specs.declared.TheConstants.{MAX_LETTERS};
 ghost use Rattle.kte_gen.specs.Commands.{with_parts, spell_numbers, insertion, wrap, unwrap, removal, range, command_of, one_more, expand_word, empty_word};
 
-use crate::draws::{draw, draw_line, length_at, push_letters};
+use crate::draws::{draw, draw_place, length_at, push_letters};
 use itoa::Buffer;
 use std::alloc::AllocError;
 
@@ -29,16 +29,14 @@ fn insertion(x: &mut u64, lengths: &mut Vec<u64>, script: &mut Vec<u8>) -> Resul
     ensures ok { OnOk result (with_parts x.new lengths.new.items script.new.items
         ≡ insertion x.old lengths.old.items script.old.items) }
 {
-    let line = draw_line(x, lengths);
-    let length = length_at(lengths, line);
-    let column = draw(x, length + 1);
+    let at = draw_place(x, lengths);
     let count = 1 + draw(x, 8);
     script.extend_from_slice(b"insert")?;
-    push_numbers(script, &[line as u64, column])?;
+    push_numbers(script, &[at.line as u64, at.column])?;
     script.extend_from_slice(b" \"")?;
     push_letters(x, count, script)?;
     script.extend_from_slice(b"\"\n")?;
-    lengths[line] = length + count;
+    lengths[at.line] = at.length + count;
     Ok(())
 }
 
@@ -50,14 +48,12 @@ fn wrap(x: &mut u64, lengths: &mut Vec<u64>, script: &mut Vec<u8>) -> Result<(),
     ensures ok { OnOk result (with_parts x.new lengths.new.items script.new.items
         ≡ wrap x.old lengths.old.items script.old.items) }
 {
-    let line = draw_line(x, lengths);
-    let length = length_at(lengths, line);
-    let column = draw(x, length + 1);
+    let at = draw_place(x, lengths);
     script.extend_from_slice(b"wrap")?;
-    push_numbers(script, &[line as u64, column])?;
+    push_numbers(script, &[at.line as u64, at.column])?;
     script.extend_from_slice(b"\n")?;
-    lengths[line] = column;
-    lengths.insert(line + 1, length - column)?;
+    lengths[at.line] = at.column;
+    lengths.insert(at.line + 1, at.length - at.column)?;
     Ok(())
 }
 
@@ -96,14 +92,13 @@ fn removal(x: &mut u64, lengths: &mut Vec<u64>, script: &mut Vec<u8>) -> Result<
     ensures ok { OnOk result (with_parts x.new lengths.new.items script.new.items
         ≡ removal x.old lengths.old.items script.old.items) }
 {
-    let line = draw_line(x, lengths);
-    let length = length_at(lengths, line);
-    let column = draw(x, length + 1);
-    let count = draw(x, length - column + 1);
+    let at = draw_place(x, lengths);
+    let count = draw(x, at.length - at.column + 1);
+    let end = at.column + count;
     script.extend_from_slice(b"remove")?;
-    push_numbers(script, &[line as u64, column, line as u64, column + count])?;
+    push_numbers(script, &[at.line as u64, at.column, at.line as u64, end])?;
     script.extend_from_slice(b"\n")?;
-    lengths[line] = length - count;
+    lengths[at.line] = at.length - count;
     Ok(())
 }
 
@@ -137,12 +132,11 @@ fn range(x: &mut u64, lengths: &[u64], script: &mut Vec<u8>) -> Result<(), Alloc
     ensures ok { OnOk result (with_parts x.new lengths.now script.new.items
         ≡ range x.old lengths.now script.old.items) }
 {
-    let line = draw_line(x, lengths);
-    let length = length_at(lengths, line);
-    let column = draw(x, length + 1);
-    let count = draw(x, length - column + 1);
+    let at = draw_place(x, lengths);
+    let count = draw(x, at.length - at.column + 1);
+    let end = at.column + count;
     script.extend_from_slice(b"range")?;
-    push_numbers(script, &[line as u64, column, line as u64, column + count])?;
+    push_numbers(script, &[at.line as u64, at.column, at.line as u64, end])?;
     push_expand(script, draw(x, 4))?;
     push_empty(script, draw(x, 2))
 }

@@ -3,9 +3,20 @@ ghost use Rattle.std.specs.Prelude.{◌≡◌, ◌<◌, ◌≤◌, ◌++◌, len
 ghost use Rattle.std.specs.List.{All};
 ghost use Rattle.kte_gen.specs.declared.TheConstants.{MAX_LETTERS};
 ghost use Rattle.kte_gen.specs.Draws.{next, drawn, skip, letters};
-ghost use Rattle.kte_gen.specs.Commands.{line_of};
+ghost use Rattle.kte_gen.specs.Commands.{line_of, room_of, column_of};
 
 use std::alloc::AllocError;
+
+/// A place in a text, and the length of its line.
+#[derive(Clone, Copy)]
+pub struct Place {
+    /// Its line, from 0.
+    pub line: usize,
+    /// The length of the line, in letters.
+    pub length: u64,
+    /// Its column, at most the length.
+    pub column: u64,
+}
 
 /// Draws a number below `below`.
 pub fn draw(x: &mut u64, below: u64) -> u64
@@ -20,16 +31,6 @@ pub fn draw(x: &mut u64, below: u64) -> u64
     (*x >> 33) % below
 }
 
-/// Draws a line.
-pub fn draw_line(x: &mut u64, lengths: &[u64]) -> usize
-    requires { 0 < length lengths.now }
-    ensures state { x.new ≡ next x.old }
-    ensures value { result ≡ line_of x.old lengths.now }
-    ensures less { result < length lengths.now }
-{
-    draw(x, lengths.len() as u64) as usize
-}
-
 /// Returns the length of a line.
 pub fn length_at(lengths: &[u64], line: usize) -> u64
     requires inside { line < length lengths.now }
@@ -38,6 +39,28 @@ pub fn length_at(lengths: &[u64], line: usize) -> u64
     ensures small { result ≤ MAX_LETTERS }
 {
     lengths[line]
+}
+
+/// Draws a line, and then a column of it.
+pub fn draw_place(x: &mut u64, lengths: &[u64]) -> Place
+    requires some { 0 < length lengths.now }
+    requires small { All (λ n. n ≤ MAX_LETTERS) lengths.now }
+    ensures state { x.new ≡ next (next x.old) }
+    ensures line { result.line ≡ line_of x.old lengths.now }
+    ensures length { result.length ≡ room_of x.old lengths.now }
+    ensures column { result.column ≡ column_of x.old lengths.now }
+    ensures inside { result.line < length lengths.now }
+    ensures within { result.column ≤ result.length }
+    ensures small { result.length ≤ MAX_LETTERS }
+{
+    let line = draw(x, lengths.len() as u64) as usize;
+    let length = length_at(lengths, line);
+    let column = draw(x, length + 1);
+    Place {
+        line,
+        length,
+        column,
+    }
 }
 
 /// Draws letters, and appends them.

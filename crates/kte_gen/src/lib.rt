@@ -1,7 +1,8 @@
 //! A generator of scripts: a number and a count give the same commands each time.
 //!
 //! Each command is within the lines that the commands before it leave. The numbers come from a
-//! linear congruential generator modulo 2^64, of which a draw gives the upper bits. [`make_script`] returns the whole script, and `specs/Commands.antt` defines it.
+//! linear congruential generator modulo 2^64, of which a draw gives the upper bits. [`make_script`]
+//! returns the whole script, and `specs/Commands.antt` defines it.
 //!
 //! - `draws`: drawing numbers, letters and places
 //! - `commands`: one function for each kind of command

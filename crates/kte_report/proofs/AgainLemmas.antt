@@ -1,19 +1,18 @@
 -- An event that is spelled is read again.
-use Rattle.std.proofs.Common.{◌≡◌, ℕ, ◌≤◌, true, false, List, [], ◌∷◌, ◌++◌, Option, None, Some, Ok, refl, sym, ap, ◌∙◌, append-nil, arith, lit<}
+use Rattle.std.proofs.Common.{◌≡◌, ℕ, ◌≤◌, true, false, List, [], ◌∷◌, ◌++◌, Option, None, Some, Ok, refl, sym, ap, ◌∙◌, subst, append-nil, arith, inl, inr, ◌⊎◌, lit<}
 use Rattle.std.specs.Prelude.{codes}
 use Rattle.std.specs.Fmt.{decimal}
 use Rattle.std.specs.Str.{bytes_eq}
-use Rattle.kte_edit.specs.declared.change.Change.TheVariants as Change
+use Rattle.kte_fold.specs.declared.refused.FoldRefused.TheVariants as fold
 use Rattle.kte_text.specs.declared.primitive.Misfit.TheVariants as misfit
 use Rattle.kte_command.specs.declared.command.Command.{Command}
-use Rattle.kte_command.specs.declared.command.Command.TheVariants.{Edit, Begin, End, Undo, Redo, MakeRange, SetRange, DropRange, ShowRange, Lock, Unlock, Land, Check, Sync, Save}
 use Rattle.kte_script.specs.declared.limits.Limits.TheVariants.{Journal}
 use Rattle.kte_script.specs.Words.{skip, ends_here, number_of}
-use Rattle.kte_script.specs.Fields.{Short, most, most_digits, starts_number, number_at, word_at}
-use Rattle.kte_script.specs.Table.{Values, Row, filled, table, row_in, spell_fields, spelling}
-use Rattle.kte_script.specs.Reading.{front_at}
-use Rattle.kte_script.specs.Limits.{AllFit, IsWithin, ArePartedBy}
-use Rattle.kte_script.proofs.AgainLemmas.{IsWord, meant_again, word-of, behind-of, skip-word, skip-one, decimal_word, decimal_means, limited}
+use Rattle.kte_script.specs.Fields.{Short, most, most_digits, number_at, word_at}
+use Rattle.kte_script.specs.Table.{Row, Filled, filled, table, row_in, spell_filled, spelling}
+use Rattle.kte_script.specs.Limits.{AllFit, IsWithin}
+use Rattle.kte_script.proofs.AgainLemmas.{IsWord, meant_again, taken, word-of, behind-of, skip-word, skip-one, decimal_word, decimal_means, limited}
+use Rattle.kte_script.proofs.RoundLemmas.{listed}
 use Rattle.kte_core.specs.declared.event.Event.{Event}
 use Rattle.kte_core.specs.declared.request.Request.{Request}
 use Rattle.kte_core.specs.declared.request.Request.TheVariants.{Cmd, Close, Take, Deliver, GiveBack, Outcome}
@@ -22,151 +21,156 @@ use Rattle.kte_core.specs.declared.reply.Reply.{Reply}
 use Rattle.kte_core.specs.declared.reply.Reply.TheVariants as reply
 use Rattle.kte_core.specs.declared.reply.Refusal.{Refusal}
 use Rattle.kte_core.specs.declared.reply.Refusal.TheVariants as refusal
-use Rattle.kte_report.specs.EventTable.{close_row, take_row, deliver_row, giveback_row, request_rows, call_row, call_rows, request_phrase, refusal_rows, filled_refusal, edited_row, cut_row, depth_row, range_row, dropped_row, locked_row, unlocked_row, landed_row, posted_row, asked_row, took_row, delivered_row, returned_row, noted_row, closed_row, reply_rows, reply_phrase}
+use Rattle.kte_report.specs.EventTable.{request_rows, call_rows, request_phrase, refusal_rows, filled_refusal, reply_rows, reply_phrase}
 use Rattle.kte_report.specs.Events.{PhraseFits, IsHeld, request_spelling, refusal_spelling, reply_spelling, event_text}
 use Rattle.kte_report.specs.EventReading.{request_at, reply_at, equals_of, equals_at, event_at}
-use Rattle.kte_report.proofs.RowLemmas.{spaced_word, IsRow, row_front, row_word, row_after, has_spans, parted}
+use Rattle.kte_report.proofs.RowLemmas.{OfEach, IsPlain, IsRest, IsListed, of_listed, listed_front, listed_word, listed_after}
 
 -- ---- refusals
 
--- a refusal's row, and that its values make it
-pub record IsFilled (refused : Refusal) : Type 0 where
-  pub row : IsRow refusal_rows (filled_refusal refused).row
-  pub alone : has_spans (filled_refusal refused).row.kinds ≡ false
-  pub made : (filled_refusal refused).row.make (filled_refusal refused).values ≡ refused
+pub plain_refusals : OfEach IsPlain refusal_rows
+plain_refusals = search arith
 
-is_filled : (refused : Refusal) → IsFilled refused
-is_filled (refusal.Misfit (misfit.NoLine line)) = record { row = record { is = record { some = lit< tt; whole = refl }; there = refl }; alone = refl; made = refl }
-is_filled (refusal.Misfit (misfit.NoColumn line column)) = record { row = record { is = record { some = lit< tt; whole = refl }; there = refl }; alone = refl; made = refl }
-is_filled (refusal.Misfit (misfit.SplitsPair line column)) = record { row = record { is = record { some = lit< tt; whole = refl }; there = refl }; alone = refl; made = refl }
-is_filled (refusal.Misfit misfit.FirstLine) = record { row = record { is = record { some = lit< tt; whole = refl }; there = refl }; alone = refl; made = refl }
-is_filled (refusal.Misfit (misfit.TooLarge size)) = record { row = record { is = record { some = lit< tt; whole = refl }; there = refl }; alone = refl; made = refl }
-is_filled refusal.NotOpen = record { row = record { is = record { some = lit< tt; whole = refl }; there = refl }; alone = refl; made = refl }
-is_filled (refusal.StillOpen depth) = record { row = record { is = record { some = lit< tt; whole = refl }; there = refl }; alone = refl; made = refl }
-is_filled refusal.Nothing = record { row = record { is = record { some = lit< tt; whole = refl }; there = refl }; alone = refl; made = refl }
-is_filled (refusal.RevisionsFull revision) = record { row = record { is = record { some = lit< tt; whole = refl }; there = refl }; alone = refl; made = refl }
-is_filled (refusal.NoRange id) = record { row = record { is = record { some = lit< tt; whole = refl }; there = refl }; alone = refl; made = refl }
-is_filled (refusal.NotLocked revision oldest) = record { row = record { is = record { some = lit< tt; whole = refl }; there = refl }; alone = refl; made = refl }
-is_filled (refusal.NotOwned revision) = record { row = record { is = record { some = lit< tt; whole = refl }; there = refl }; alone = refl; made = refl }
-is_filled (refusal.NoJob closed) = record { row = record { is = record { some = lit< tt; whole = refl }; there = refl }; alone = refl; made = refl }
-is_filled (refusal.NotTaken job) = record { row = record { is = record { some = lit< tt; whole = refl }; there = refl }; alone = refl; made = refl }
-is_filled refusal.Closed = record { row = record { is = record { some = lit< tt; whole = refl }; there = refl }; alone = refl; made = refl }
-
-refusal_again : (refused : Refusal) (rest : List ℕ) → AllFit Journal (filled_refusal refused).row.kinds (filled_refusal refused).values → ends_here rest ≡ true → front_at Journal refusal_rows (32 ∷ refusal_spelling refused ++ rest) ≡ Ok (refused, rest)
-refusal_again refused rest fits e =
-    let f = filled_refusal refused in
-    let is = is_filled refused in
-    row_front refusal_rows f.row f.values rest is.row fits (parted f.row.kinds f.values rest is.alone) e ∙ ap (λ (x : Refusal). Ok (x, rest)) is.made
+pub refusal_listed : (refused : Refusal) → IsListed refusal_rows (filled_refusal refused) refused
+refusal_listed (refusal.Misfit (misfit.NoLine line)) = record { there = refl; made = refl }
+refusal_listed (refusal.Misfit (misfit.NoColumn line column)) = record { there = refl; made = refl }
+refusal_listed (refusal.Misfit (misfit.SplitsPair line column)) = record { there = refl; made = refl }
+refusal_listed (refusal.Misfit misfit.FirstLine) = record { there = refl; made = refl }
+refusal_listed (refusal.Misfit (misfit.TooLarge size)) = record { there = refl; made = refl }
+refusal_listed refusal.NotOpen = record { there = refl; made = refl }
+refusal_listed (refusal.StillOpen depth) = record { there = refl; made = refl }
+refusal_listed refusal.Nothing = record { there = refl; made = refl }
+refusal_listed (refusal.RevisionsFull revision) = record { there = refl; made = refl }
+refusal_listed (refusal.NoRange id) = record { there = refl; made = refl }
+refusal_listed (refusal.NoFold id) = record { there = refl; made = refl }
+refusal_listed (refusal.Fold fold.OutOfText) = record { there = refl; made = refl }
+refusal_listed (refusal.Fold fold.EmptySpan) = record { there = refl; made = refl }
+refusal_listed (refusal.Fold (fold.Crosses id)) = record { there = refl; made = refl }
+refusal_listed refusal.NoMatch = record { there = refl; made = refl }
+refusal_listed (refusal.NotLocked revision oldest) = record { there = refl; made = refl }
+refusal_listed (refusal.NotOwned revision) = record { there = refl; made = refl }
+refusal_listed (refusal.NoJob closed) = record { there = refl; made = refl }
+refusal_listed (refusal.NotTaken job) = record { there = refl; made = refl }
+refusal_listed refusal.Closed = record { there = refl; made = refl }
 
 -- ---- replies
 
--- a reply's row that is no refusal's
-pub record IsReplyRow (row : Row Reply) : Type 0 where
-  pub found : IsRow reply_rows row
-  pub alone : has_spans row.kinds ≡ false
-  pub other : bytes_eq row.word (codes "refused") ≡ false
+pub plain_replies : OfEach IsPlain reply_rows
+plain_replies = search arith
 
-reply_row : (row : Row Reply) (values : Values row.kinds) (rest : List ℕ) → IsReplyRow row → AllFit Journal row.kinds values → ends_here rest ≡ true → reply_at (32 ∷ (row.word ++ spell_fields row.kinds values) ++ rest) ≡ Ok (row.make values, rest)
+-- a row whose word is not that of refusals
+abbrev IsNoRefusal : Row Reply → Type 0
+IsNoRefusal row = bytes_eq row.word (codes "refused") ≡ false
+
+no_refusals : OfEach IsNoRefusal reply_rows
+no_refusals = search arith
+
+-- a reply with a row of the table
+pub record IsListedReply (replied : Reply) : Type 0 where
+  pub lead : (reply_phrase replied).lead ≡ []
+  pub listed : IsListed reply_rows (reply_phrase replied).filled replied
+
+abbrev pub IsRefusal : Reply → Type 0
+IsRefusal replied = (refused : Refusal) × (replied ≡ reply.Refused refused)
+
+-- a reply has a row of the table, or is a refusal
+pub reply_listed : (replied : Reply) → IsListedReply replied ⊎ IsRefusal replied
+reply_listed (reply.Edited steps revision depth) = inl (record { lead = refl; listed = record { there = refl; made = refl } })
+reply_listed (reply.Cut steps revision depth) = inl (record { lead = refl; listed = record { there = refl; made = refl } })
+reply_listed (reply.Depth depth) = inl (record { lead = refl; listed = record { there = refl; made = refl } })
+reply_listed (reply.Range id span) = inl (record { lead = refl; listed = record { there = refl; made = refl } })
+reply_listed (reply.Dropped id) = inl (record { lead = refl; listed = record { there = refl; made = refl } })
+reply_listed (reply.Locked revision) = inl (record { lead = refl; listed = record { there = refl; made = refl } })
+reply_listed (reply.Unlocked revision) = inl (record { lead = refl; listed = record { there = refl; made = refl } })
+reply_listed (reply.Landed span) = inl (record { lead = refl; listed = record { there = refl; made = refl } })
+reply_listed (reply.Found spans) = inl (record { lead = refl; listed = record { there = refl; made = refl } })
+reply_listed (reply.Posted job) = inl (record { lead = refl; listed = record { there = refl; made = refl } })
+reply_listed reply.Asked = inl (record { lead = refl; listed = record { there = refl; made = refl } })
+reply_listed (reply.Took job revision) = inl (record { lead = refl; listed = record { there = refl; made = refl } })
+reply_listed (reply.Delivered job first count) = inl (record { lead = refl; listed = record { there = refl; made = refl } })
+reply_listed (reply.Returned job) = inl (record { lead = refl; listed = record { there = refl; made = refl } })
+reply_listed reply.Noted = inl (record { lead = refl; listed = record { there = refl; made = refl } })
+reply_listed reply.Closed = inl (record { lead = refl; listed = record { there = refl; made = refl } })
+reply_listed (reply.Refused refused) = inr (refused, refl)
+
+abbrev ReplyAgain : Reply → Type 0
+ReplyAgain replied = (rest : List ℕ) → PhraseFits (reply_phrase replied) → IsRest rest → reply_at (32 ∷ reply_spelling replied ++ rest) ≡ Ok (replied, rest)
+
+listed_reply_again : (replied : Reply) → IsListedReply replied → ReplyAgain replied
 unfolding reply_at
-reply_row row values rest is fits e =
-    rw (row_word row values rest is.found.is e, is.other) (row_front reply_rows row values rest is.found fits (parted row.kinds values rest is.alone) e)
+listed_reply_again replied is rest fits after =
+    let f = (reply_phrase replied).filled in
+    rw (is.lead, listed_word reply_rows f replied rest plain_replies is.listed after.ends, of_listed IsNoRefusal reply_rows f replied no_refusals is.listed) (listed_front reply_rows f replied rest plain_replies is.listed fits after)
 
-refused_again : (refused : Refusal) (rest : List ℕ) → AllFit Journal (filled_refusal refused).row.kinds (filled_refusal refused).values → ends_here rest ≡ true → reply_at (32 ∷ (codes "refused" ++ 32 ∷ refusal_spelling refused) ++ rest) ≡ Ok (reply.Refused refused, rest)
+refused_again : (refused : Refusal) → ReplyAgain (reply.Refused refused)
 unfolding reply_at
-refused_again refused rest fits e =
-    let f = spaced_word (codes "refused") (32 ∷ refusal_spelling refused ++ rest) (record { some = lit< tt; whole = refl }) refl in
-    rw (f.first, f.after, refusal_again refused rest fits e) refl
+refused_again refused rest fits after =
+    let t = taken (codes "refused") (32 ∷ refusal_spelling refused ++ rest) (record { some = lit< tt; whole = refl }) refl in
+    rw (t.0, t.1, listed_front refusal_rows (filled_refusal refused) refused rest plain_refusals (refusal_listed refused) fits after) refl
 
-pub reply_again : (replied : Reply) (rest : List ℕ) → PhraseFits (reply_phrase replied) → ends_here rest ≡ true → reply_at (32 ∷ reply_spelling replied ++ rest) ≡ Ok (replied, rest)
-reply_again (reply.Edited steps revision depth) rest fits e = reply_row edited_row (steps, (revision, (depth, tt))) rest (record { found = record { is = record { some = lit< tt; whole = refl }; there = refl }; alone = refl; other = refl }) fits e
-reply_again (reply.Cut steps revision depth) rest fits e = reply_row cut_row (steps, (revision, (depth, tt))) rest (record { found = record { is = record { some = lit< tt; whole = refl }; there = refl }; alone = refl; other = refl }) fits e
-reply_again (reply.Depth depth) rest fits e = reply_row depth_row (depth, tt) rest (record { found = record { is = record { some = lit< tt; whole = refl }; there = refl }; alone = refl; other = refl }) fits e
-reply_again (reply.Range id span) rest fits e = reply_row range_row (id, (span, tt)) rest (record { found = record { is = record { some = lit< tt; whole = refl }; there = refl }; alone = refl; other = refl }) fits e
-reply_again (reply.Dropped id) rest fits e = reply_row dropped_row (id, tt) rest (record { found = record { is = record { some = lit< tt; whole = refl }; there = refl }; alone = refl; other = refl }) fits e
-reply_again (reply.Locked revision) rest fits e = reply_row locked_row (revision, tt) rest (record { found = record { is = record { some = lit< tt; whole = refl }; there = refl }; alone = refl; other = refl }) fits e
-reply_again (reply.Unlocked revision) rest fits e = reply_row unlocked_row (revision, tt) rest (record { found = record { is = record { some = lit< tt; whole = refl }; there = refl }; alone = refl; other = refl }) fits e
-reply_again (reply.Landed span) rest fits e = reply_row landed_row (span, tt) rest (record { found = record { is = record { some = lit< tt; whole = refl }; there = refl }; alone = refl; other = refl }) fits e
-reply_again (reply.Posted job) rest fits e = reply_row posted_row (job, tt) rest (record { found = record { is = record { some = lit< tt; whole = refl }; there = refl }; alone = refl; other = refl }) fits e
-reply_again reply.Asked rest fits e = reply_row asked_row tt rest (record { found = record { is = record { some = lit< tt; whole = refl }; there = refl }; alone = refl; other = refl }) fits e
-reply_again (reply.Took job revision) rest fits e = reply_row took_row (job, (revision, tt)) rest (record { found = record { is = record { some = lit< tt; whole = refl }; there = refl }; alone = refl; other = refl }) fits e
-reply_again (reply.Delivered job first count) rest fits e = reply_row delivered_row (job, (first, (count, tt))) rest (record { found = record { is = record { some = lit< tt; whole = refl }; there = refl }; alone = refl; other = refl }) fits e
-reply_again (reply.Returned job) rest fits e = reply_row returned_row (job, tt) rest (record { found = record { is = record { some = lit< tt; whole = refl }; there = refl }; alone = refl; other = refl }) fits e
-reply_again reply.Noted rest fits e = reply_row noted_row tt rest (record { found = record { is = record { some = lit< tt; whole = refl }; there = refl }; alone = refl; other = refl }) fits e
-reply_again reply.Closed rest fits e = reply_row closed_row tt rest (record { found = record { is = record { some = lit< tt; whole = refl }; there = refl }; alone = refl; other = refl }) fits e
-reply_again (reply.Refused refused) rest fits e = refused_again refused rest fits e
+pub reply_again : (replied : Reply) → ReplyAgain replied
+reply_again replied = elim (reply_listed replied) [
+  | inl is ↦ listed_reply_again replied is
+  | inr p ↦ subst ReplyAgain (sym p.1) (refused_again p.0)
+]
 
 -- ---- requests
 
--- a command's row, which is no other request's
-pub record IsCommandRow (command : Command) : Type 0 where
-  pub row : IsRow table (filled command).row
-  pub alone : has_spans (filled command).row.kinds ≡ false
-  pub made : (filled command).row.make (filled command).values ≡ command
-  pub other : bytes_eq (filled command).row.word (codes "outcome") ≡ false
-  pub none : row_in request_rows (filled command).row.word ≡ None
+pub plain_commands : OfEach IsPlain table
+plain_commands = search arith
 
-is_command_row : (command : Command) → IsCommandRow command
-is_command_row (Edit (Change.Insert place text)) = record { row = record { is = record { some = lit< tt; whole = refl }; there = refl }; alone = refl; made = refl; other = refl; none = refl }
-is_command_row (Edit (Change.Wrap place)) = record { row = record { is = record { some = lit< tt; whole = refl }; there = refl }; alone = refl; made = refl; other = refl; none = refl }
-is_command_row (Edit (Change.Unwrap line)) = record { row = record { is = record { some = lit< tt; whole = refl }; there = refl }; alone = refl; made = refl; other = refl; none = refl }
-is_command_row (Edit (Change.Remove span)) = record { row = record { is = record { some = lit< tt; whole = refl }; there = refl }; alone = refl; made = refl; other = refl; none = refl }
-is_command_row (Edit (Change.Replace span text)) = record { row = record { is = record { some = lit< tt; whole = refl }; there = refl }; alone = refl; made = refl; other = refl; none = refl }
-is_command_row Begin = record { row = record { is = record { some = lit< tt; whole = refl }; there = refl }; alone = refl; made = refl; other = refl; none = refl }
-is_command_row End = record { row = record { is = record { some = lit< tt; whole = refl }; there = refl }; alone = refl; made = refl; other = refl; none = refl }
-is_command_row Undo = record { row = record { is = record { some = lit< tt; whole = refl }; there = refl }; alone = refl; made = refl; other = refl; none = refl }
-is_command_row Redo = record { row = record { is = record { some = lit< tt; whole = refl }; there = refl }; alone = refl; made = refl; other = refl; none = refl }
-is_command_row (MakeRange span expand empty) = record { row = record { is = record { some = lit< tt; whole = refl }; there = refl }; alone = refl; made = refl; other = refl; none = refl }
-is_command_row (SetRange id span) = record { row = record { is = record { some = lit< tt; whole = refl }; there = refl }; alone = refl; made = refl; other = refl; none = refl }
-is_command_row (DropRange id) = record { row = record { is = record { some = lit< tt; whole = refl }; there = refl }; alone = refl; made = refl; other = refl; none = refl }
-is_command_row (ShowRange id) = record { row = record { is = record { some = lit< tt; whole = refl }; there = refl }; alone = refl; made = refl; other = refl; none = refl }
-is_command_row Lock = record { row = record { is = record { some = lit< tt; whole = refl }; there = refl }; alone = refl; made = refl; other = refl; none = refl }
-is_command_row (Unlock revision) = record { row = record { is = record { some = lit< tt; whole = refl }; there = refl }; alone = refl; made = refl; other = refl; none = refl }
-is_command_row (Land revision span expand empty) = record { row = record { is = record { some = lit< tt; whole = refl }; there = refl }; alone = refl; made = refl; other = refl; none = refl }
-is_command_row (Check rule) = record { row = record { is = record { some = lit< tt; whole = refl }; there = refl }; alone = refl; made = refl; other = refl; none = refl }
-is_command_row Sync = record { row = record { is = record { some = lit< tt; whole = refl }; there = refl }; alone = refl; made = refl; other = refl; none = refl }
-is_command_row Save = record { row = record { is = record { some = lit< tt; whole = refl }; there = refl }; alone = refl; made = refl; other = refl; none = refl }
+-- a row whose word is that of no other request
+abbrev IsNoRequest : Row Command → Type 0
+IsNoRequest row = (bytes_eq row.word (codes "outcome") ≡ false) × (row_in request_rows row.word ≡ None)
+
+no_requests : OfEach IsNoRequest table
+no_requests = search arith
+
+pub command_listed : (command : Command) → IsListed table (filled command) command
+command_listed command = record { there = (listed command).there; made = (listed command).made }
 
 -- what follows a request: the next word is `=`
 abbrev pub equals_and : List ℕ → List ℕ
 equals_and more = 32 ∷ 61 ∷ 32 ∷ more
 
+after_request : (more : List ℕ) → IsRest (equals_and more)
+after_request more = record { ends = refl; none = rw (skip-one 61 (32 ∷ more) refl) refl }
+
 command_again : (command : Command) (more : List ℕ) → IsWithin Journal command → request_at (32 ∷ spelling command ++ equals_and more) ≡ Ok (Cmd command, equals_and more)
 unfolding request_at
 command_again command more fits =
     let f = filled command in
-    let is = is_command_row command in
-    let first = row_word f.row f.values (equals_and more) is.row.is refl in
-    let front = row_front table f.row f.values (equals_and more) is.row fits (parted f.row.kinds f.values (equals_and more) is.alone) refl in
-    rw (first, is.other, is.none, front, is.made) refl
+    let is = command_listed command in
+    let none = of_listed IsNoRequest table f command no_requests is in
+    rw (listed_word table f command (equals_and more) plain_commands is refl, none.0, none.1, listed_front table f command (equals_and more) plain_commands is fits (after_request more)) refl
+
+plain_requests : OfEach IsPlain request_rows
+plain_requests = search arith
+
+plain_calls : OfEach IsPlain call_rows
+plain_calls = search arith
 
 -- a request's row that is neither a command's nor an outcome's
-pub record IsRequestRow (row : Row Request) : Type 0 where
-  pub found : IsRow request_rows row
-  pub other : bytes_eq row.word (codes "outcome") ≡ false
-
-request_row : (row : Row Request) (values : Values row.kinds) (rest : List ℕ) → IsRequestRow row → AllFit Journal row.kinds values → ArePartedBy row.kinds values rest → ends_here rest ≡ true → request_at (32 ∷ (row.word ++ spell_fields row.kinds values) ++ rest) ≡ Ok (row.make values, rest)
+request_row : (f : Filled Request) (more : List ℕ) → IsListed request_rows f (f.row.make f.values) → bytes_eq f.row.word (codes "outcome") ≡ false → AllFit Journal f.row.kinds f.values → request_at (32 ∷ spell_filled f ++ equals_and more) ≡ Ok (f.row.make f.values, equals_and more)
 unfolding request_at
-request_row row values rest is fits parts e =
-    rw (row_word row values rest is.found.is e, is.other, is.found.there) (row_after row values rest is.found.is fits parts e)
+request_row f more is other fits =
+    rw (listed_word request_rows f (f.row.make f.values) (equals_and more) plain_requests is refl, other, is.there) (listed_after request_rows f (f.row.make f.values) (equals_and more) plain_requests is fits (after_request more))
 
-outcome_again : (row : Row Request) (values : Values row.kinds) (rest : List ℕ) → IsRow call_rows row → has_spans row.kinds ≡ false → AllFit Journal row.kinds values → ends_here rest ≡ true → request_at (32 ∷ (codes "outcome" ++ 32 ∷ (row.word ++ spell_fields row.kinds values)) ++ rest) ≡ Ok (row.make values, rest)
+outcome_again : (f : Filled Request) (more : List ℕ) → IsListed call_rows f (f.row.make f.values) → AllFit Journal f.row.kinds f.values → request_at (32 ∷ (codes "outcome" ++ 32 ∷ spell_filled f) ++ equals_and more) ≡ Ok (f.row.make f.values, equals_and more)
 unfolding request_at
-outcome_again row values rest is alone fits e =
-    let f = spaced_word (codes "outcome") (32 ∷ (row.word ++ spell_fields row.kinds values) ++ rest) (record { some = lit< tt; whole = refl }) refl in
-    rw (f.first, f.after) (row_front call_rows row values rest is fits (parted row.kinds values rest alone) e)
-
-no_digit : (more : List ℕ) → starts_number (skip (equals_and more)) ≡ false
-no_digit more = rw (skip-one 61 (32 ∷ more) refl) refl
+outcome_again f more is fits =
+    let t = taken (codes "outcome") (32 ∷ spell_filled f ++ equals_and more) (record { some = lit< tt; whole = refl }) refl in
+    rw (t.0, t.1) (listed_front call_rows f (f.row.make f.values) (equals_and more) plain_calls is fits (after_request more))
 
 pub request_again : (request : Request) (more : List ℕ) → PhraseFits (request_phrase request) → request_at (32 ∷ request_spelling request ++ equals_and more) ≡ Ok (request, equals_and more)
 request_again (Cmd command) more fits = command_again command more fits
-request_again Close more fits = request_row close_row tt (equals_and more) (record { found = record { is = record { some = lit< tt; whole = refl }; there = refl }; other = refl }) fits tt refl
-request_again Take more fits = request_row take_row tt (equals_and more) (record { found = record { is = record { some = lit< tt; whole = refl }; there = refl }; other = refl }) fits tt refl
-request_again (Deliver job findings) more fits = request_row deliver_row (job, (findings, tt)) (equals_and more) (record { found = record { is = record { some = lit< tt; whole = refl }; there = refl }; other = refl }) fits (tt, (no_digit more, tt)) refl
-request_again (GiveBack job) more fits = request_row giveback_row (job, tt) (equals_and more) (record { found = record { is = record { some = lit< tt; whole = refl }; there = refl }; other = refl }) fits (tt, tt) refl
-request_again (Outcome call.Append ok) more fits = outcome_again (call_row call.Append) (ok, tt) (equals_and more) (record { is = record { some = lit< tt; whole = refl }; there = refl }) refl fits refl
-request_again (Outcome call.Sync ok) more fits = outcome_again (call_row call.Sync) (ok, tt) (equals_and more) (record { is = record { some = lit< tt; whole = refl }; there = refl }) refl fits refl
-request_again (Outcome call.Save ok) more fits = outcome_again (call_row call.Save) (ok, tt) (equals_and more) (record { is = record { some = lit< tt; whole = refl }; there = refl }) refl fits refl
+request_again Close more fits = request_row (request_phrase Close).filled more (record { there = refl; made = refl }) refl fits
+request_again Take more fits = request_row (request_phrase Take).filled more (record { there = refl; made = refl }) refl fits
+request_again (Deliver job findings) more fits = request_row (request_phrase (Deliver job findings)).filled more (record { there = refl; made = refl }) refl fits
+request_again (GiveBack job) more fits = request_row (request_phrase (GiveBack job)).filled more (record { there = refl; made = refl }) refl fits
+request_again (Outcome call.Append ok) more fits = outcome_again (request_phrase (Outcome call.Append ok)).filled more (record { there = refl; made = refl }) fits
+request_again (Outcome call.Sync ok) more fits = outcome_again (request_phrase (Outcome call.Sync ok)).filled more (record { there = refl; made = refl }) fits
+request_again (Outcome call.Save ok) more fits = outcome_again (request_phrase (Outcome call.Save ok)).filled more (record { there = refl; made = refl }) fits
 
 -- ---- the whole line
 
@@ -185,10 +189,14 @@ unfolding number_at
 seat_again seat more le =
     word_first (number_of (most_digits Journal) (most Journal Short)) seat (decimal seat) (32 ∷ more) (decimal_word seat (omega arith)) (decimal_means (most Journal Short) (most_digits Journal) seat (limited Journal Short) le) refl
 
+at_end : IsRest []
+unfolding skip
+at_end = record { ends = refl; none = refl }
+
 pub event_again : (event : Event) → IsHeld event → event_at (event_text event) ≡ Ok (event, [])
 unfolding event_at event_text
 event_again event held =
     let replied = reply_spelling event.reply in
     let asked : request_at (32 ∷ request_spelling event.request ++ equals_and replied) ≡ Ok (event.request, equals_and replied) = request_again event.request replied held.request in
-    let answered : reply_at (32 ∷ replied) ≡ Ok (event.reply, []) = ap (λ (xs : List ℕ). reply_at (32 ∷ xs)) (sym (append-nil replied)) ∙ reply_again event.reply [] held.reply refl in
+    let answered : reply_at (32 ∷ replied) ≡ Ok (event.reply, []) = ap (λ (xs : List ℕ). reply_at (32 ∷ xs)) (sym (append-nil replied)) ∙ reply_again event.reply [] held.reply at_end in
     rw (seat_again event.seat (request_spelling event.request ++ equals_and replied) held.seat, asked, equals_again replied, answered) refl

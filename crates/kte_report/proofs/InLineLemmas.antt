@@ -16,7 +16,7 @@ use Rattle.kte_find.specs.declared.rule.Rule.{Rule}
 use Rattle.kte_find.specs.declared.rule.Rule.TheVariants as rules
 use Rattle.kte_script.specs.declared.limits.Limits.TheVariants.{Journal}
 use Rattle.kte_script.specs.Strings.{hex_digit, spell_byte, utf8_of_text, spell_text}
-use Rattle.kte_script.specs.Fields.{Count, ALine, AColumn, Short, Long, most, Kind, Number, OrNone, APlace, ASpan, OrInvalid, Spans, AText, APattern, ARule, Expands, Empties, Succeeds, Closes, Value, spell_number, spell_or_none, spell_place, spell_span, spell_or_invalid, spell_spans, spell_rule, expand_word, spell_empty, spell_succeeds, spell_closes, spell_field}
+use Rattle.kte_script.specs.Fields.{Count, ALine, AColumn, Short, Long, most, Kind, Number, OrNone, APlace, ASpan, OrInvalid, Spans, AText, APattern, AQuery, ARule, Expands, Empties, Succeeds, Closes, Value, spell_number, spell_or_none, spell_place, spell_span, spell_or_invalid, spell_spans, spell_pattern, spell_folds, spell_whole, spell_rule, expand_word, spell_empty, spell_succeeds, spell_closes, spell_field}
 use Rattle.kte_script.specs.Table.{Values, spell_fields}
 use Rattle.kte_script.specs.Limits.{IsPlace, IsSpan, IsRule, Fits, AllFit}
 use Rattle.kte_report.specs.Lines.{is_in_line}
@@ -123,6 +123,14 @@ empty_in_line : (empty : Empty) → is_in_line (spell_empty empty) ≡ true
 empty_in_line Allow = refl
 empty_in_line Void = refl
 
+folds_in_line : (fold_case : Bool) → is_in_line (spell_folds fold_case) ≡ true
+folds_in_line true = refl
+folds_in_line false = refl
+
+whole_in_line : (whole : Bool) → is_in_line (spell_whole whole) ≡ true
+whole_in_line true = refl
+whole_in_line false = refl
+
 succeeds_in_line : (ok : Bool) → is_in_line (spell_succeeds ok) ≡ true
 succeeds_in_line true = refl
 succeeds_in_line false = refl
@@ -140,6 +148,8 @@ field_in_line OrInvalid span fits = or_invalid_in_line span fits
 field_in_line Spans spans fits = spans_in_line spans fits
 field_in_line AText text fits = text_in_line text
 field_in_line APattern line fits = text_in_line (line ∷ [])
+field_in_line AQuery query fits =
+    in-append (spell_pattern query.pattern) (spell_folds query.fold_case ++ spell_whole query.whole) (text_in_line (query.pattern ∷ [])) (in-append (spell_folds query.fold_case) (spell_whole query.whole) (folds_in_line query.fold_case) (whole_in_line query.whole))
 field_in_line ARule rule fits = rule_in_line rule fits
 field_in_line Expands expand fits = expand_in_line expand.left expand.right
 field_in_line Empties empty fits = empty_in_line empty

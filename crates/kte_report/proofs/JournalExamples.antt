@@ -4,10 +4,11 @@ use Rattle.std.specs.Prelude.{codes}
 use Rattle.std.specs.Fmt.{digits}
 use Rattle.kte_place.specs.Examples.{span}
 use Rattle.kte_text.specs.declared.primitive.Misfit.TheVariants.{NoLine, NoColumn, SplitsPair, FirstLine, TooLarge}
+use Rattle.kte_fold.specs.declared.refused.FoldRefused.TheVariants.{OutOfText, EmptySpan, Crosses}
 use Rattle.kte_command.specs.declared.command.Command.TheVariants.{DropRange, Sync}
 use Rattle.kte_core.specs.declared.request.Request.TheVariants.{Cmd, Close, Take, Deliver, GiveBack, Outcome}
 use Rattle.kte_core.specs.declared.request.OutsideCall.TheVariants as call
-use Rattle.kte_core.specs.declared.reply.Reply.TheVariants.{Edited, Cut, Depth, Range, Dropped, Locked, Unlocked, Landed, Posted, Asked, Took, Delivered, Returned, Noted, Closed, Refused}
+use Rattle.kte_core.specs.declared.reply.Reply.TheVariants.{Edited, Cut, Depth, Range, Dropped, Locked, Unlocked, Landed, Found, Posted, Asked, Took, Delivered, Returned, Noted, Closed, Refused}
 use Rattle.kte_core.specs.declared.reply.Refusal.TheVariants as refusal
 use Rattle.kte_report.specs.Events.{request_spelling, refusal_spelling, reply_spelling, event_text}
 use Rattle.kte_report.specs.Journal.{journal_text}
@@ -29,9 +30,10 @@ requests = refl
 replies : Are
     (reply_spelling (Edited 1 2 3) ∷ reply_spelling (Cut 10 20 0) ∷ reply_spelling (Depth 4) ∷ reply_spelling (Range 5 (Some (span 0 1 2 3)))
     ∷ reply_spelling (Range 6 None) ∷ reply_spelling (Dropped 7) ∷ reply_spelling (Locked 8) ∷ reply_spelling (Unlocked 9)
-    ∷ reply_spelling (Landed (Some (span 3 2 3 2))) ∷ reply_spelling (Landed None) ∷ [])
+    ∷ reply_spelling (Landed (Some (span 3 2 3 2))) ∷ reply_spelling (Landed None) ∷ reply_spelling (Found [])
+    ∷ reply_spelling (Found (span 0 1 0 3 ∷ span 2 0 10 4 ∷ [])) ∷ [])
     (codes "edited 1 2 3" ∷ codes "cut 10 20 0" ∷ codes "depth 4" ∷ codes "range 5 0 1 2 3" ∷ codes "range 6 invalid" ∷ codes "dropped 7"
-    ∷ codes "locked 8" ∷ codes "unlocked 9" ∷ codes "landed 3 2 3 2" ∷ codes "landed invalid" ∷ [])
+    ∷ codes "locked 8" ∷ codes "unlocked 9" ∷ codes "landed 3 2 3 2" ∷ codes "landed invalid" ∷ codes "found" ∷ codes "found 0 1 0 3 2 0 10 4" ∷ [])
 unfolding digits
 replies = refl
 
@@ -59,6 +61,13 @@ refusals : Are
     ∷ codes "norange 7" ∷ codes "revisionsfull 8" ∷ codes "nojob open" ∷ codes "nojob closed" ∷ codes "nottaken 9" ∷ codes "closed" ∷ [])
 unfolding digits
 refusals = refl
+
+refusals_of_folds : Are
+    (refusal_spelling (refusal.NoFold 1) ∷ refusal_spelling (refusal.Fold OutOfText) ∷ refusal_spelling (refusal.Fold EmptySpan)
+    ∷ refusal_spelling (refusal.Fold (Crosses 2)) ∷ refusal_spelling refusal.NoMatch ∷ [])
+    (codes "nofold 1" ∷ codes "outoftext" ∷ codes "emptyspan" ∷ codes "crosses 2" ∷ codes "nomatch" ∷ [])
+unfolding digits
+refusals_of_folds = refl
 
 -- a journal of two events, and an empty one
 two_events : journal_text

@@ -16,3 +16,4 @@ mod ReportExamples
 mod RecoveryExamples
 pub mod RangeLemmas
 pub mod ReportLemmas
+pub mod HiddenLemmas

@@ -1,19 +1,20 @@
 -- The ranges of a state and those of its document, entry by entry.
 use Rattle.std.proofs.Common.{◌≡◌, ℕ, ◌+◌, ◌<◌, zero, suc, Bool, true, false, ◌&&◌, cond, map, List, [], ◌∷◌, ◌++◌, length, take, get_or, T, codes, Option, Some, refl, sym, ap, subst, ◌∙◌, append_assoc, append-nil, arith}
 use Rattle.std.specs.Option.{option_map}
-use Rattle.std.specs.List.{flat_map, slice_get}
+use Rattle.std.specs.List.{flat_map, filter_map, cons_option, slice_get}
 use Rattle.std.specs.Ordering.{nat_cmp, eq_by_cmp, is_lt}
 use Rattle.std.specs.Cmp.{nat_cmp_total}
-use Rattle.std.specs.FinMap.{FinMap, get, keys, entries, entries_sorted, find, is_sorted, same_map, nat_cmp-IsAntisymmetric, from_sorted, entries-from_sorted, get-from_sorted, get-entries}
+use Rattle.std.specs.FinMap.{FinMap, get, keys, entries, entries_sorted, find, is_sorted, same_map, nat_cmp-IsAntisymmetric, from_sorted, entries-from_sorted, get-from_sorted, get-entries, from_entries}
 use Rattle.std.specs.FinMap.Entries.{below_all}
 use Rattle.std.proofs.lemmas.Bool.Decides.{nat_tests}
 use Rattle.std.proofs.lemmas.Grind.{flat_map-append}
 use Rattle.std.proofs.lemmas.List.{take_more, length-map}
 use Rattle.std.proofs.lemmas.Option.{get_or_from_slice_get}
 use Rattle.kte_place.specs.Ends.{Ends}
-use Rattle.kte_doc.specs.Standings.{Standing, Standings}
+use Rattle.kte_doc.specs.Standings.{Standing, Standings, spans_of}
 use Rattle.kte_doc.specs.Documents.{Document}
-use Rattle.kte_core.specs.State.{State}
+use Rattle.kte_core.specs.State.{State, Range, stands}
+use Rattle.kte_core.specs.Folds.{spans_now}
 use Rattle.kte_core.specs.Shown.{range_of, IsOf}
 use Rattle.kte_report.specs.Report.{number_line, range_line, standing_line, range_lines}
 use Rattle.kte_report.specs.Shown.{shown_line, shown_lines}
@@ -128,18 +129,46 @@ module _ {X Y : Type 0} (f : X → Y) where
       ap (λ (first : List ℕ). first ++ flat_map h (with_values es)) (same 0 e refl)
       ∙ ap (λ (rest : List ℕ). g e ++ rest) (flat_map-changed g h es (λ n x at. same (suc n) x at))
 
+  filter_map-changed : {Z : Type 0} (g : ℕ × X → Option Z) (h : ℕ × Y → Option Z) (es : List (ℕ × X))
+      → ((n : ℕ) (e : ℕ × X) → slice_get es n ≡ Some e → h (e.0, f e.1) ≡ g e) → filter_map h (with_values es) ≡ filter_map g es
+  filter_map-changed {Z = Z} g h [] same = refl
+  filter_map-changed {Z = Z} g h (e ∷ es) same =
+      ap (λ (o : Option Z). cons_option o (filter_map h (with_values es))) (same 0 e refl)
+      ∙ ap (cons_option (g e)) (filter_map-changed g h es (λ n x at. same (suc n) x at))
+
   length-with_values : (es : List (ℕ × X)) → length (with_values es) ≡ length es
   length-with_values es = length-map es (λ (e : ℕ × X). (e.0, f e.1))
+
+-- the ranges of a state are those of its document, without where they stand
+entries_are : (state : State) (document : Document) → IsOf state document → entries state.ranges ≡ with_values range_of (entries document.ranges)
+entries_are state document is = entries-changed range_of document.ranges state.ranges is.ranges
+
+-- there are as many
+pub count_alike : (state : State) (document : Document) → IsOf state document → length (entries document.ranges) ≡ length (entries state.ranges)
+count_alike state document is =
+    sym (ap length (entries_are state document is) ∙ length-with_values range_of (entries document.ranges))
+
+-- the valid ones stand in the document where they do in the state
+pub spans_alike : (state : State) (document : Document) → IsOf state document → spans_of document.ranges ≡ spans_now state
+spans_alike state document is =
+    let es = entries document.ranges in
+    let span : (n : ℕ) (e : ℕ × Standing) → slice_get es n ≡ Some e
+    → option_map (λ (span : Ends). (e.0, span)) (stands state.editing (range_of e.1)) ≡ option_map (λ (span : Ends). (e.0, span)) e.1.span =
+    λ n e at. ap (option_map (λ (span : Ends). (e.0, span))) (sym (is.came.ranges e.0 e.1 (get-at document.ranges n e at)).span) in
+    sym (ap (λ (es : List (ℕ × Range)). from_entries (filter_map (λ e. option_map (λ span. (e.0, span)) (stands state.editing e.1)) es))
+    (entries_are state document is)
+    ∙ ap (λ (es : List (ℕ × Ends)). from_entries es)
+    (filter_map-changed range_of (λ e. option_map (λ span. (e.0, span)) e.1.span)
+    (λ e. option_map (λ span. (e.0, span)) (stands state.editing e.1)) es span))
 
 -- what a document shows is what the report has of its state
 pub shown : (state : State) (document : Document) → IsOf state document → shown_lines document.ranges ≡ range_lines state
 shown state document is =
     let es = entries document.ranges in
-    let entries_are : entries state.ranges ≡ with_values range_of es = entries-changed range_of document.ranges state.ranges is.ranges in
     let line : (n : ℕ) (e : ℕ × Standing) → slice_get es n ≡ Some e → standing_line state.editing (e.0, range_of e.1) ≡ shown_line e.0 e.1 =
     λ n e at. ap (λ (span : Option Ends). range_line e.0 e.1.kind e.1.expand e.1.empty span) (sym (is.came.ranges e.0 e.1 (get-at document.ranges n e at)).span) in
     let lines : flat_map (standing_line state.editing) (entries state.ranges) ≡ shown_all es =
-    ap (flat_map (standing_line state.editing)) entries_are ∙ flat_map-changed range_of (λ e. shown_line e.0 e.1) (standing_line state.editing) es line in
-    let count : length (entries state.ranges) ≡ length es = ap length entries_are ∙ length-with_values range_of es in
-    sym (ap (λ (n : ℕ). number_line (codes "ranges") n ++ flat_map (standing_line state.editing) (entries state.ranges)) count
-    ∙ ap (λ (rest : List ℕ). number_line (codes "ranges") (length es) ++ rest) lines)
+    ap (flat_map (standing_line state.editing)) (entries_are state document is)
+    ∙ flat_map-changed range_of (λ e. shown_line e.0 e.1) (standing_line state.editing) es line in
+    ap (λ (n : ℕ). number_line (codes "ranges") n ++ shown_all es) (count_alike state document is)
+    ∙ ap (λ (rest : List ℕ). number_line (codes "ranges") (length (entries state.ranges)) ++ rest) (sym lines)

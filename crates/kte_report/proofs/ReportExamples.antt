@@ -3,7 +3,7 @@ use Rattle.std.proofs.Common.{◌≡◌, true, false, length, List, [], ◌∷�
 use Rattle.std.specs.Prelude.{codes}
 use Rattle.std.specs.Ordering.{nat_cmp}
 use Rattle.std.specs.Cmp.{nat_cmp_total}
-use Rattle.std.specs.FinMap.{entries, empty, insert, len-empty, len-entries, entries-insert}
+use Rattle.std.specs.FinMap.{FinMap, entries, empty, insert, get-insert, len-empty, len-entries, entries-insert}
 use Rattle.std.proofs.lemmas.Fmt.{decimal_digit}
 use Rattle.hex.specs.Hex.{encode_with}
 use Rattle.kte_text.specs.declared.loading.Loaded.{Loaded}
@@ -11,13 +11,14 @@ use Rattle.kte_text.specs.declared.loading.Eol.TheVariants.{Lf}
 use Rattle.kte_text.specs.declared.primitive.Primitive.TheVariants.{Insert}
 use Rattle.kte_place.specs.declared.span.Empty.{Empty}
 use Rattle.kte_place.specs.declared.span.Empty.TheVariants.{Allow, Void}
+use Rattle.kte_place.specs.Ends.{Ends}
 use Rattle.kte_place.specs.Examples.{span, expand}
 use Rattle.kte_history.specs.declared.lock.Owner.TheVariants.{Editor}
 use Rattle.kte_ranges.specs.declared.info.RangeKind.{RangeKind}
 use Rattle.kte_ranges.specs.declared.info.RangeKind.TheVariants as kind
 use Rattle.kte_core.specs.State.{State, Range}
 use Rattle.kte_core.specs.Replay.{beginning}
-use Rattle.kte_report.specs.Report.{report, range_line, range_lines, count_lines, runs_of, hidden_text, digits_line, digest_line, text_lines}
+use Rattle.kte_report.specs.Report.{report, summary, range_line, range_lines, count_lines, runs_of, hidden_text, hidden_lines, digits_line, digest_line, text_lines}
 use Rattle.kte_report.proofs.Ascii.{lossy-ascii}
 
 no_length : {A : Type 0} (xs : List A) → length xs ≡ 0 → xs ≡ []
@@ -37,6 +38,13 @@ nothing : report (beginning empty_file 8)
     ++ digest_line [] ++ codes "text\n|\n"
 nothing =
     rw (no_entries, lossy-ascii [] refl, decimal_digit 1 (omega arith), decimal_digit 0 (omega arith)) refl
+
+-- ---- the summary of a search that finds nothing in it, and of the close after it
+
+searched : summary 1 2 (record (beginning empty_file 8) { closed = true }) 0
+    ≡ codes "commands 1\nevents 2\nlines 1\nrevision 0\nsize 0\nundo 0 0\nranges 0\n"
+    ++ digest_line [] ++ codes "recovered 0\n"
+searched = rw (no_entries, lossy-ascii [] refl, decimal_digit 1 (omega arith), decimal_digit 2 (omega arith), decimal_digit 0 (omega arith)) refl
 
 -- ---- the line of a range
 
@@ -109,3 +117,59 @@ runs = (refl, refl)
 
 hidden : hidden_text (1 ∷ 2 ∷ 3 ∷ 7 ∷ []) ≡ codes "hidden 4\nhide 1 3\nhide 7 7\n"
 hidden = rw (decimal_digit 1 (omega arith), decimal_digit 3 (omega arith), decimal_digit 4 (omega arith), decimal_digit 7 (omega arith)) refl
+
+-- runs that touch are one, and a line between them keeps two apart
+touching : (runs_of (1 ∷ 2 ∷ []) ≡ (1, 2) ∷ []) × (runs_of (1 ∷ 3 ∷ []) ≡ (1, 1) ∷ (3, 3) ∷ [])
+touching = (refl, refl)
+
+-- `a`, `b`, `c` and `d` on a line each, with these folds
+abbrev with_folds : FinMap nat_cmp Range → State
+with_folds folds = record {
+  editing = record {
+    loaded = record { text = codes "a" ∷ codes "b" ∷ codes "c" ∷ codes "d" ∷ []; eol = Lf; bom = false };
+    limit = 8;
+    trail = [];
+    edits = record { depth = 0; current = []; undo = []; redo = [] };
+  };
+  ranges = folds;
+  next_id = 3;
+  locks = [];
+  jobs = [];
+  closed = false;
+}
+
+abbrev fold : Ends → Range
+fold s = record {
+  expand = expand false false;
+  empty = Void;
+  kind = kind.Fold;
+  origin = record { revision = 0; span = s };
+}
+
+-- a fold hides the lines after its first
+folded : hidden_text (hidden_lines (with_folds (insert empty 1 (fold (span 0 1 2 0))))) ≡ codes "hidden 2\nhide 1 2\n"
+folded =
+    rw (
+      entries-insert nat_cmp_total empty 1 (fold (span 0 1 2 0)),
+      no_entries,
+      get-insert nat_cmp_total (empty {X = Ends}) 1 (span 0 1 2 0) 1,
+      decimal_digit 1 (omega arith),
+      decimal_digit 2 (omega arith),
+    ) refl
+
+-- two folds that touch hide one run
+adjacent : hidden_text (hidden_lines (with_folds (insert (insert empty 2 (fold (span 0 0 1 1))) 1 (fold (span 1 1 3 1))))) ≡ codes "hidden 3\nhide 1 3\n"
+adjacent =
+    rw (
+      entries-insert nat_cmp_total (insert empty 2 (fold (span 0 0 1 1))) 1 (fold (span 1 1 3 1)),
+      entries-insert nat_cmp_total empty 2 (fold (span 0 0 1 1)),
+      no_entries,
+      get-insert nat_cmp_total (insert (empty {X = Ends}) 2 (span 0 0 1 1)) 1 (span 1 1 3 1) 1,
+      get-insert nat_cmp_total (insert (empty {X = Ends}) 2 (span 0 0 1 1)) 1 (span 1 1 3 1) 2,
+      get-insert nat_cmp_total (empty {X = Ends}) 2 (span 0 0 1 1) 2,
+      decimal_digit 1 (omega arith),
+      decimal_digit 3 (omega arith),
+    ) refl
+
+unfolded : hidden_text (hidden_lines (with_folds empty)) ≡ codes "hidden 0\n"
+unfolded = rw (no_entries, decimal_digit 0 (omega arith)) refl

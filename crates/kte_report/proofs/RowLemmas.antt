@@ -1,19 +1,19 @@
 -- What is spelled by a row is read again off its table.
-use Rattle.std.proofs.Common.{◌≡◌, ℕ, Bool, true, false, cond, List, [], ◌∷◌, ◌++◌, Option, None, Some, Result, Ok, Err, refl, sym, ap, ◌∙◌, subst, append_assoc, arith}
-use Rattle.std.specs.Prelude.{unwrap_or}
-use Rattle.std.specs.List.{list_all}
-use Rattle.std.specs.Str.{bytes_eq}
+use Rattle.std.proofs.Common.{◌≡◌, ℕ, Bool, true, false, List, [], ◌∷◌, ◌++◌, None, Some, Ok, refl, sym, ap, ◌∙◌, subst, append_assoc, inl, inr}
 use Rattle.kte_find.specs.declared.rule.Rule.TheVariants as rules
 use Rattle.kte_script.specs.declared.limits.Limits.TheVariants.{Journal}
-use Rattle.kte_script.specs.Words.{is_other, skip, word, behind, ends_here}
+use Rattle.kte_script.specs.Words.{skip, word, behind, ends_here}
 use Rattle.kte_script.specs.Strings.{spell_text}
-use Rattle.kte_script.specs.Fields.{Kind, Number, OrNone, APlace, ASpan, OrInvalid, Spans, AText, APattern, ARule, Expands, Empties, Succeeds, Closes, Value, Reading, ◌>>=◌, meant, spell_field}
-use Rattle.kte_script.specs.Table.{Values, Row, row_in, spell_fields}
+use Rattle.kte_script.specs.Fields.{Kind, Number, OrNone, APlace, ASpan, OrInvalid, Spans, AText, APattern, AQuery, ARule, Expands, Empties, Succeeds, Closes, Value, word_at, starts_number, spell_field}
+use Rattle.kte_script.specs.Table.{Values, Row, Filled, row_in, spell_fields, spell_filled}
 use Rattle.kte_script.specs.Reading.{read_fields, row_at, front_at}
 use Rattle.kte_script.specs.Limits.{AllFit, ArePartedBy}
-use Rattle.kte_script.proofs.AgainLemmas.{IsWord, word-of, behind-of, skip-one}
-use Rattle.kte_report.proofs.LineLemmas.{both}
-use Rattle.kte_script.proofs.RoundLemmas.{fields_again}
+use Rattle.kte_script.specs.InWords.{IsOneOf}
+use Rattle.kte_script.proofs.AgainLemmas.{IsWord, taken}
+use Rattle.kte_script.proofs.ReadsLemmas.{bind_ok, done_same, word_found}
+use Rattle.kte_script.proofs.LineInWordsLemmas.{row_sound}
+use Rattle.kte_script.proofs.RoundLemmas.{filled_again-spaced}
+use Rattle.kte_report.specs.Lines.{is_in_line}
 use Rattle.kte_report.proofs.FieldLemmas.{fields_fit}
 
 -- a field is empty or begins with a space
@@ -30,6 +30,7 @@ field_starts Spans [] rest e = e
 field_starts Spans (span ∷ spans) rest e = refl
 field_starts AText text rest e = refl
 field_starts APattern line rest e = refl
+field_starts AQuery query rest e = refl
 field_starts ARule (rules.Word word) rest e = refl
 field_starts ARule rules.Blanks rest e = refl
 field_starts ARule (rules.Long limit) rest e = refl
@@ -45,120 +46,101 @@ fields_start [] values rest e = e
 fields_start (kind ∷ kinds) values rest e =
     rw (append_assoc (spell_field kind values.0) (spell_fields kinds values.1) rest) (field_starts kind values.0 (spell_fields kinds values.1 ++ rest) (fields_start kinds values.1 rest e))
 
--- ---- the word after a space
+-- ---- the rows of a table
 
-pub record Fronts (w more : List ℕ) : Type 0 where
-  pub skipped : skip (32 ∷ w ++ more) ≡ w ++ more
-  pub first : word (skip (32 ∷ w ++ more)) ≡ w
-  pub after : behind (skip (32 ∷ w ++ more)) ≡ more
+-- this holds of each of these rows
+abbrev pub OfEach : {A : Type 0} → (Row A → Type 0) → List (Row A) → Type 0
+OfEach P [] = Unit {0}
+OfEach P (row ∷ rows) = P row × OfEach P rows
 
-pub spaced_word : (w more : List ℕ) → IsWord w → ends_here more ≡ true → Fronts w more
-spaced_word [] more is e = absurd (omega (arith, is.some))
-spaced_word (byte ∷ w) more is e =
-    let parts = both (is_other byte) (list_all is_other w) is.whole in
-    let here : skip (32 ∷ byte ∷ w ++ more) ≡ byte ∷ w ++ more = skip-one byte (w ++ more) parts.0 in
-    record {
-      skipped = here;
-      first = ap word here ∙ word-of (byte ∷ w) more is.whole e;
-      after = ap behind here ∙ behind-of (byte ∷ w) more is.whole e;
-    }
+of_one : {A : Type 0} (P : Row A → Type 0) (rows : List (Row A)) (row : Row A) → IsOneOf rows row → OfEach P rows → P row
+of_one P [] row is each = absurd is
+of_one P (first ∷ rows) row (inl e) each = subst P (sym e) each.0
+of_one P (first ∷ rows) row (inr is) each = of_one P rows row is each.1
 
--- ---- rows
+pub of_row : {A : Type 0} (P : Row A → Type 0) (rows : List (Row A)) (w : List ℕ) (row : Row A) → OfEach P rows → row_in rows w ≡ Some row → P row
+of_row P rows w row each e = of_one P rows row (row_sound rows w row e).0 each
 
--- a row of a table
-pub record IsRow {A : Type 0} (rows : List (Row A)) (row : Row A) : Type 0 where
+-- spans are the last of the fields, if there are any
+abbrev pub spans_last : List Kind → Bool
+spans_last [] = true
+spans_last (Spans ∷ []) = true
+spans_last (Spans ∷ kind ∷ kinds) = false
+spans_last (kind ∷ kinds) = spans_last kinds
+
+-- a row with a word, which has no line end, and with spans at its end only
+pub record IsPlain {A : Type 0} (row : Row A) : Type 0 where
   pub is : IsWord row.word
-  pub there : row_in rows row.word ≡ Some row
+  pub inside : is_in_line row.word ≡ true
+  pub last : spans_last row.kinds ≡ true
 
-row_again : {A : Type 0} (row : Row A) (values : Values row.kinds) (rest : List ℕ) → AllFit Journal row.kinds values → ArePartedBy row.kinds values rest → ends_here rest ≡ true → row_at Journal row (spell_fields row.kinds values ++ rest) ≡ Ok (row.make values, rest)
-unfolding row_at
-row_again row values rest fits parted e = rw (fields_again Journal row.kinds values rest fits parted e) refl
+-- what may follow the fields of such a row
+pub record IsRest (rest : List ℕ) : Type 0 where
+  pub ends : ends_here rest ≡ true
+  pub none : starts_number (skip rest) ≡ false
+
+parted : (kinds : List Kind) (values : Values kinds) (rest : List ℕ) → spans_last kinds ≡ true → IsRest rest → ArePartedBy kinds values rest
+parted [] values rest e is = tt
+parted (Number count ∷ kinds) values rest e is = (tt, parted kinds values.1 rest e is)
+parted (OrNone count ∷ kinds) values rest e is = (tt, parted kinds values.1 rest e is)
+parted (APlace ∷ kinds) values rest e is = (tt, parted kinds values.1 rest e is)
+parted (ASpan ∷ kinds) values rest e is = (tt, parted kinds values.1 rest e is)
+parted (OrInvalid ∷ kinds) values rest e is = (tt, parted kinds values.1 rest e is)
+parted (Spans ∷ []) values rest e is = (is.none, tt)
+parted (Spans ∷ kind ∷ kinds) values rest e is = absurd cc
+parted (AText ∷ kinds) values rest e is = (tt, parted kinds values.1 rest e is)
+parted (APattern ∷ kinds) values rest e is = (tt, parted kinds values.1 rest e is)
+parted (AQuery ∷ kinds) values rest e is = (tt, parted kinds values.1 rest e is)
+parted (ARule ∷ kinds) values rest e is = (tt, parted kinds values.1 rest e is)
+parted (Expands ∷ kinds) values rest e is = (tt, parted kinds values.1 rest e is)
+parted (Empties ∷ kinds) values rest e is = (tt, parted kinds values.1 rest e is)
+parted (Succeeds ∷ kinds) values rest e is = (tt, parted kinds values.1 rest e is)
+parted (Closes ∷ kinds) values rest e is = (tt, parted kinds values.1 rest e is)
+
+-- ---- what is spelled by a row
+
+-- a row that its word finds in the table, and whose values make this
+pub record IsListed {A : Type 0} (rows : List (Row A)) (f : Filled A) (value : A) : Type 0 where
+  pub there : row_in rows f.row.word ≡ Some f.row
+  pub made : f.row.make f.values ≡ value
+
+-- what holds of each row of the table holds of a row that is listed
+pub of_listed : {A : Type 0} (P : Row A → Type 0) (rows : List (Row A)) (f : Filled A) (value : A) → OfEach P rows → IsListed rows f value → P f.row
+of_listed P rows f value each is = of_row P rows f.row.word f.row each is.there
 
 -- the row after a space
-pub row_front : {A : Type 0} (rows : List (Row A)) (row : Row A) (values : Values row.kinds) (rest : List ℕ) → IsRow rows row → AllFit Journal row.kinds values → ArePartedBy row.kinds values rest → ends_here rest ≡ true → front_at Journal rows (32 ∷ (row.word ++ spell_fields row.kinds values) ++ rest) ≡ Ok (row.make values, rest)
-unfolding front_at
-row_front rows row values rest is fits parted e =
-    let more : List ℕ = spell_fields row.kinds values ++ rest in
-    let f = spaced_word row.word more is.is (fields_start row.kinds values rest e) in
-    rw (append_assoc row.word (spell_fields row.kinds values) rest, f.first, is.there, f.after) (row_again row values rest fits parted e)
+pub listed_front : {A : Type 0} (rows : List (Row A)) (f : Filled A) (value : A) (rest : List ℕ) → OfEach IsPlain rows → IsListed rows f value → AllFit Journal f.row.kinds f.values → IsRest rest → front_at Journal rows (32 ∷ spell_filled f ++ rest) ≡ Ok (value, rest)
+listed_front {A} rows f value rest each is fits after =
+    let plain = of_listed IsPlain rows f value each is in
+    filled_again-spaced Journal rows f rest plain.is is.there fits (parted f.row.kinds f.values rest plain.last after) after.ends ∙ ap (λ (x : A). Ok (x, rest)) is.made
 
 -- the first word of a row
-pub row_word : {A : Type 0} (row : Row A) (values : Values row.kinds) (rest : List ℕ) → IsWord row.word → ends_here rest ≡ true → word (skip (32 ∷ (row.word ++ spell_fields row.kinds values) ++ rest)) ≡ row.word
-row_word row values rest is e =
-    let f = spaced_word row.word (spell_fields row.kinds values ++ rest) is (fields_start row.kinds values rest e) in
-    rw (append_assoc row.word (spell_fields row.kinds values) rest) f.first
+pub listed_word : {A : Type 0} (rows : List (Row A)) (f : Filled A) (value : A) (rest : List ℕ) → OfEach IsPlain rows → IsListed rows f value → ends_here rest ≡ true → word (skip (32 ∷ spell_filled f ++ rest)) ≡ f.row.word
+listed_word rows f value rest each is e =
+    rw (append_assoc f.row.word (spell_fields f.row.kinds f.values) rest) (taken f.row.word (spell_fields f.row.kinds f.values ++ rest) (of_listed IsPlain rows f value each is).is (fields_start f.row.kinds f.values rest e)).0
 
-pub row_after : {A : Type 0} (row : Row A) (values : Values row.kinds) (rest : List ℕ) → IsWord row.word → AllFit Journal row.kinds values → ArePartedBy row.kinds values rest → ends_here rest ≡ true → row_at Journal row (behind (skip (32 ∷ (row.word ++ spell_fields row.kinds values) ++ rest))) ≡ Ok (row.make values, rest)
-row_after row values rest is fits parted e =
-    let f = spaced_word row.word (spell_fields row.kinds values ++ rest) is (fields_start row.kinds values rest e) in
-    rw (append_assoc row.word (spell_fields row.kinds values) rest, f.after) (row_again row values rest fits parted e)
-
--- what may follow a row without spans
-abbrev pub has_spans : List Kind → Bool
-has_spans [] = false
-has_spans (Spans ∷ kinds) = true
-has_spans (kind ∷ kinds) = has_spans kinds
-
-pub parted : (kinds : List Kind) (values : Values kinds) (rest : List ℕ) → has_spans kinds ≡ false → ArePartedBy kinds values rest
-parted [] values rest e = tt
-parted (Number count ∷ kinds) values rest e = (tt, parted kinds values.1 rest e)
-parted (OrNone count ∷ kinds) values rest e = (tt, parted kinds values.1 rest e)
-parted (APlace ∷ kinds) values rest e = (tt, parted kinds values.1 rest e)
-parted (ASpan ∷ kinds) values rest e = (tt, parted kinds values.1 rest e)
-parted (OrInvalid ∷ kinds) values rest e = (tt, parted kinds values.1 rest e)
-parted (Spans ∷ kinds) values rest e = absurd cc
-parted (AText ∷ kinds) values rest e = (tt, parted kinds values.1 rest e)
-parted (APattern ∷ kinds) values rest e = (tt, parted kinds values.1 rest e)
-parted (ARule ∷ kinds) values rest e = (tt, parted kinds values.1 rest e)
-parted (Expands ∷ kinds) values rest e = (tt, parted kinds values.1 rest e)
-parted (Empties ∷ kinds) values rest e = (tt, parted kinds values.1 rest e)
-parted (Succeeds ∷ kinds) values rest e = (tt, parted kinds values.1 rest e)
-parted (Closes ∷ kinds) values rest e = (tt, parted kinds values.1 rest e)
+-- .. and what is read after it
+pub listed_after : {A : Type 0} (rows : List (Row A)) (f : Filled A) (value : A) (rest : List ℕ) → OfEach IsPlain rows → IsListed rows f value → AllFit Journal f.row.kinds f.values → IsRest rest → row_at Journal f.row (behind (skip (32 ∷ spell_filled f ++ rest))) ≡ Ok (value, rest)
+unfolding front_at
+listed_after rows f value rest each is fits after =
+    rw (listed_word rows f value rest each is after.ends, is.there) at (listed_front rows f value rest each is fits after)
 
 -- ---- what is read off a table
 
--- this holds of whatever a row of the table makes
-abbrev pub EachMade : {A : Type 0} → (A → Type 0) → List (Row A) → Type 0
-EachMade P [] = Unit {0}
-EachMade P (row ∷ rows) = ((values : Values row.kinds) → AllFit Journal row.kinds values → P (row.make values)) × EachMade P rows
-
--- this holds of what a row makes
+-- this holds of whatever the row makes
 abbrev pub Made : {A : Type 0} → (A → Type 0) → Row A → Type 0
 Made P row = (values : Values row.kinds) → AllFit Journal row.kinds values → P (row.make values)
 
-some_row : {A : Type 0} (row found : Row A) → Some row ≡ Some found → row ≡ found
-some_row {A} row found e = ap (λ (o : Option (Row A)). unwrap_or o row) e
-
-pick : {A : Type 0} (P : A → Type 0) (b : Bool) (row found : Row A) (other : Option (Row A)) → Made P row → (other ≡ Some found → Made P found) → cond b (Some row) other ≡ Some found → Made P found
-pick P true row found other made others e = subst (Made P) (some_row row found e) made
-pick P false row found other made others e = others e
-
-pub row_made : {A : Type 0} (P : A → Type 0) (rows : List (Row A)) (w : List ℕ) (row : Row A) → EachMade P rows → row_in rows w ≡ Some row → Made P row
-row_made P [] w row each e = absurd cc
-row_made P (first ∷ rows) w row each e = pick P (bytes_eq w first.word) first row (row_in rows w) each.0 (λ f. row_made P rows w row each.1 f) e
-
-abbrev pub or_else : {A : Type 0} → A → Result A ℕ → A
-or_else x (Ok y) = y
-or_else x (Err e) = x
-
-pub ok_same : {A : Type 0} (x y : A) (r : Result A ℕ) → r ≡ Ok x → r ≡ Ok y → x ≡ y
-ok_same {A} x y r p q = ap (λ (o : Result A ℕ). or_else x o) (sym p ∙ q)
-
-values_made : {A : Type 0} (P : A → Type 0) (row : Row A) (bytes : List ℕ) (r : Reading (Values row.kinds)) (value : A) (rest : List ℕ) → Made P row → read_fields Journal row.kinds bytes ≡ r → ◌>>=◌ {B = A × List ℕ} r (λ values. Ok (row.make values.0, values.1)) ≡ Ok (value, rest) → P value
-values_made P row bytes (Err left) value rest made is e = absurd cc
-values_made {A} P row bytes (Ok values) value rest made is e =
-    let pair : (row.make values.0, values.1) ≡ (value, rest) = ok_same (row.make values.0, values.1) (value, rest) (Ok (row.make values.0, values.1)) refl e in
-    let same : row.make values.0 ≡ value = ap (λ (p : A × List ℕ). p.0) pair in
-    subst P same (made values.0 (fields_fit Journal row.kinds bytes values.1 values.0 is))
-
 pub after_made : {A : Type 0} (P : A → Type 0) (row : Row A) (bytes : List ℕ) (value : A) (rest : List ℕ) → Made P row → row_at Journal row bytes ≡ Ok (value, rest) → P value
 unfolding row_at
-after_made P row bytes value rest made e = values_made P row bytes (read_fields Journal row.kinds bytes) value rest made refl e
+after_made {A} P row bytes value rest made e =
+    let q = bind_ok (read_fields Journal row.kinds bytes) (λ values. Ok (row.make values.0, values.1)) (value, rest) e in
+    let same : (row.make q.0.0, q.0.1) ≡ (value, rest) = done_same {A = A × List ℕ} (row.make q.0.0, q.0.1) (value, rest) q.2 in
+    subst (λ (z : A × List ℕ). P z.0) same (made q.0.0 (fields_fit Journal row.kinds bytes q.0.1 q.0.0 q.1))
 
-option_made : {A : Type 0} (P : A → Type 0) (o : Option (Row A)) (bytes : List ℕ) (value : A) (rest : List ℕ) → ((row : Row A) → o ≡ Some row → Made P row) → ◌>>=◌ {B = A × List ℕ} (meant o bytes) (λ row. row_at Journal row.0 row.1) ≡ Ok (value, rest) → P value
-option_made P None bytes value rest made e = absurd cc
-option_made P (Some row) bytes value rest made e = after_made P row (behind bytes) value rest (made row refl) e
-
-pub front_made : {A : Type 0} (P : A → Type 0) (rows : List (Row A)) (bytes : List ℕ) (value : A) (rest : List ℕ) → EachMade P rows → front_at Journal rows bytes ≡ Ok (value, rest) → P value
+pub front_made : {A : Type 0} (P : A → Type 0) (rows : List (Row A)) (bytes : List ℕ) (value : A) (rest : List ℕ) → OfEach (Made P) rows → front_at Journal rows bytes ≡ Ok (value, rest) → P value
 unfolding front_at
-front_made P rows bytes value rest each e = option_made P (row_in rows (word (skip bytes))) (skip bytes) value rest (λ row f. row_made P rows (word (skip bytes)) row each f) e
+front_made P rows bytes value rest each e =
+    let p = bind_ok (word_at (row_in rows) bytes) (λ row. row_at Journal row.0 row.1) (value, rest) e in
+    let named = word_found (row_in rows) bytes p.0.0 p.0.1 p.1 in
+    after_made P p.0.0 p.0.1 value rest (of_row (Made P) rows (word (skip bytes)) p.0.0 each named) p.2

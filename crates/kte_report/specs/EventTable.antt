@@ -2,6 +2,7 @@
 -- follow. This project's own form
 use Rattle.std.specs.Prelude.{ℕ, List, [], ◌∷◌, ◌++◌, codes}
 use Rattle.kte_text.specs.declared.primitive.Misfit.TheVariants as misfit
+use Rattle.kte_fold.specs.declared.refused.FoldRefused.TheVariants as fold
 use Rattle.kte_script.specs.Fields.{ALine, Short, Long, Number, OrNone, APlace, OrInvalid, Spans, Succeeds, Closes}
 use Rattle.kte_script.specs.Table.{Values, Row, Filled, filled, spell_filled}
 use Rattle.kte_core.specs.declared.request.Request.{Request}
@@ -75,7 +76,7 @@ call_row called = record {
   make = λ v. Outcome called v.0;
 }
 
--- what stands after `outcome`
+-- the words after `outcome`
 abbrev pub call_rows : List (Row Request)
 call_rows = call_row call.Append ∷ call_row call.Sync ∷ call_row call.Save ∷ []
 
@@ -163,6 +164,42 @@ norange_row = record {
   make = λ v. refusal.NoRange v.0;
 }
 
+-- `nofold ID`
+abbrev pub nofold_row : Row Refusal
+nofold_row = record {
+  word = codes "nofold";
+  kinds = Number Long ∷ [];
+  make = λ v. refusal.NoFold v.0;
+}
+
+-- `outoftext`
+abbrev pub outoftext_row : Row Refusal
+outoftext_row = record {
+  word = codes "outoftext";
+  kinds = [];
+  make = λ v. refusal.Fold fold.OutOfText;
+}
+
+-- `emptyspan`
+abbrev pub emptyspan_row : Row Refusal
+emptyspan_row = record {
+  word = codes "emptyspan";
+  kinds = [];
+  make = λ v. refusal.Fold fold.EmptySpan;
+}
+
+-- `crosses ID`
+abbrev pub crosses_row : Row Refusal
+crosses_row = record {
+  word = codes "crosses";
+  kinds = Number Long ∷ [];
+  make = λ v. refusal.Fold (fold.Crosses v.0);
+}
+
+-- `nomatch`
+abbrev pub nomatch_row : Row Refusal
+nomatch_row = record { word = codes "nomatch"; kinds = []; make = λ v. refusal.NoMatch }
+
 -- `notlocked R OLDEST`
 abbrev pub notlocked_row : Row Refusal
 notlocked_row = record {
@@ -199,11 +236,16 @@ nottaken_row = record {
 abbrev pub refused_closed_row : Row Refusal
 refused_closed_row = record { word = codes "closed"; kinds = []; make = λ v. refusal.Closed }
 
+-- the refusals about ranges, folds and searches
+abbrev pub range_refusal_rows : List (Row Refusal)
+range_refusal_rows =
+    norange_row ∷ nofold_row ∷ outoftext_row ∷ emptyspan_row ∷ crosses_row ∷ nomatch_row ∷ []
+
 -- all refusals but misfits
 abbrev pub other_refusal_rows : List (Row Refusal)
 other_refusal_rows =
-    notopen_row ∷ stillopen_row ∷ nothing_row ∷ revisionsfull_row ∷ norange_row ∷ notlocked_row
-    ∷ notowned_row ∷ nojob_row ∷ nottaken_row ∷ refused_closed_row ∷ []
+    notopen_row ∷ stillopen_row ∷ nothing_row ∷ revisionsfull_row ∷ notlocked_row ∷ notowned_row
+    ∷ nojob_row ∷ nottaken_row ∷ refused_closed_row ∷ range_refusal_rows
 
 abbrev pub refusal_rows : List (Row Refusal)
 refusal_rows =
@@ -226,6 +268,11 @@ filled_refusal refusal.Nothing = record { row = nothing_row; values = tt }
 filled_refusal (refusal.RevisionsFull revision) =
     record { row = revisionsfull_row; values = (revision, tt) }
 filled_refusal (refusal.NoRange id) = record { row = norange_row; values = (id, tt) }
+filled_refusal (refusal.NoFold id) = record { row = nofold_row; values = (id, tt) }
+filled_refusal (refusal.Fold fold.OutOfText) = record { row = outoftext_row; values = tt }
+filled_refusal (refusal.Fold fold.EmptySpan) = record { row = emptyspan_row; values = tt }
+filled_refusal (refusal.Fold (fold.Crosses id)) = record { row = crosses_row; values = (id, tt) }
+filled_refusal refusal.NoMatch = record { row = nomatch_row; values = tt }
 filled_refusal (refusal.NotLocked revision oldest) =
     record { row = notlocked_row; values = (revision, (oldest, tt)) }
 filled_refusal (refusal.NotOwned revision) = record { row = notowned_row; values = (revision, tt) }
@@ -299,6 +346,14 @@ landed_row = record {
   make = λ v. reply.Landed v.0;
 }
 
+-- `found`, and then `L C L C` for each match
+abbrev pub found_row : Row Reply
+found_row = record {
+  word = codes "found";
+  kinds = Spans ∷ [];
+  make = λ v. reply.Found v.0;
+}
+
 -- `posted JOB`
 abbrev pub posted_row : Row Reply
 posted_row = record {
@@ -352,7 +407,7 @@ other_reply_rows =
 abbrev pub reply_rows : List (Row Reply)
 reply_rows =
     edited_row ∷ cut_row ∷ depth_row ∷ range_row ∷ dropped_row ∷ locked_row ∷ unlocked_row
-    ∷ landed_row ∷ other_reply_rows
+    ∷ landed_row ∷ found_row ∷ other_reply_rows
 
 -- the words of a reply
 abbrev pub reply_phrase : Reply → Phrase Reply
@@ -365,6 +420,7 @@ reply_phrase (reply.Dropped id) = plain dropped_row (id, tt)
 reply_phrase (reply.Locked revision) = plain locked_row (revision, tt)
 reply_phrase (reply.Unlocked revision) = plain unlocked_row (revision, tt)
 reply_phrase (reply.Landed span) = plain landed_row (span, tt)
+reply_phrase (reply.Found spans) = plain found_row (spans, tt)
 reply_phrase (reply.Posted job) = plain posted_row (job, tt)
 reply_phrase reply.Asked = plain asked_row tt
 reply_phrase (reply.Took job revision) = plain took_row (job, (revision, tt))

@@ -1,7 +1,7 @@
 -- The report of a state: what is edited, where the ranges are, and the text, line by line. This
 -- project's own form.
-use Rattle.std.specs.Prelude.{ℕ, ◌+◌, ◌==◌, List, [], ◌∷◌, ◌++◌, length, codes, Option, if◌then◌else◌}
-use Rattle.std.specs.List.{flat_map}
+use Rattle.std.specs.Prelude.{ℕ, ◌+◌, ◌==◌, List, [], ◌∷◌, ◌++◌, length, filter, codes, Option, if◌then◌else◌}
+use Rattle.std.specs.List.{flat_map, range_with_len}
 use Rattle.std.specs.FinMap.{entries}
 use Rattle.hex.specs.Hex.{encode_lower}
 use Rattle.kte_text.specs.Units.{utf8_of}
@@ -17,6 +17,7 @@ use Rattle.kte_ranges.specs.declared.info.RangeKind.TheVariants.{User, Fold, Job
 use Rattle.kte_doc.specs.Trail.{entries_of}
 use Rattle.kte_core.specs.Editing.{Editing, text_of, saved_form, revision_of}
 use Rattle.kte_core.specs.State.{State, Range, stands}
+use Rattle.kte_core.specs.Folds.{is_line_hidden}
 use Rattle.kte_script.specs.Fields.{spell_number, spell_or_invalid, spell_expand, spell_empty}
 
 -- ---- the lines
@@ -95,18 +96,28 @@ abbrev pub hidden_text : List ℕ → List ℕ
 hidden_text lines =
     number_line (codes "hidden") (length lines) ++ flat_map hide_line (runs_of lines)
 
--- the hidden lines of a state, rising: no command hides any
+-- the lines that folds hide now, rising
 abbrev pub hidden_lines : State → List ℕ
-hidden_lines state = []
+hidden_lines state =
+    filter (is_line_hidden state) (range_with_len 0 (length (text_of state.editing)))
 
--- how many lines, primitives, units with line ends, kept entries, and groups there are
-abbrev pub count_lines : State → List ℕ
-count_lines state =
+-- how many lines, primitives, and units with line ends there are
+abbrev pub size_lines : State → List ℕ
+size_lines state =
     number_line (codes "lines") (length (text_of state.editing))
     ++ number_line (codes "revision") (revision_of state.editing)
     ++ number_line (codes "size") (size_of (text_of state.editing))
-    ++ number_line (codes "kept") (length (kept_entries state))
-    ++ groups_line (length state.editing.edits.undo) (length state.editing.edits.redo)
+
+-- how many groups there are to undo and to redo now
+abbrev pub group_lines : State → List ℕ
+group_lines state =
+    groups_line (length state.editing.edits.undo) (length state.editing.edits.redo)
+
+-- these counts, and between them how many entries are kept
+abbrev pub count_lines : State → List ℕ
+count_lines state =
+    size_lines state ++ number_line (codes "kept") (length (kept_entries state))
+    ++ group_lines state
 
 -- the whole report; the digest is that of the file that saving would write now
 abbrev pub report : State → List ℕ
@@ -114,3 +125,13 @@ report state =
     codes "report\n" ++ count_lines state ++ range_lines state
     ++ hidden_text (hidden_lines state) ++ digest_line (saved_form state.editing)
     ++ text_lines (text_of state.editing)
+
+-- The summary of a run: how many commands and events it had, the counts of the state after it
+-- without the kept entries, how many ranges there are, the digest, and how many transactions were
+-- recovered from its swap file
+abbrev pub summary : ℕ → ℕ → State → ℕ → List ℕ
+summary commands events state recovered =
+    number_line (codes "commands") commands ++ number_line (codes "events") events
+    ++ size_lines state ++ group_lines state
+    ++ number_line (codes "ranges") (length (entries state.ranges))
+    ++ digest_line (saved_form state.editing) ++ number_line (codes "recovered") recovered

@@ -1,13 +1,16 @@
 //! The report of a core, line by line.
-ghost use Rattle.std.specs.Prelude.{◌≡◌, ◌++◌, codes, IfOk, OnOk, OnErr, Some};
+ghost use Rattle.std.specs.Prelude.{◌≡◌, ◌∷◌, [], ◌++◌, codes, length, IfOk, OnOk, OnErr, Some};
 ghost use Rattle.std.specs.List.{flat_map};
 ghost use Rattle.std.specs.FinMap as map;
 ghost use Rattle.kte_text.specs.Units.{IsLine};
+ghost use Rattle.kte_core.specs.Editing.{saved_form};
 ghost use Rattle.kte_core.specs.Replay.{present};
+ghost use Rattle.kte_script.specs.Fields.{spell_number};
 ghost use Rattle.kte_script.specs.Spelled.{Keeps};
-ghost use Rattle.kte_report.specs.Report.{number_line, groups_line, kind_text, range_line, digits_line, line_text, text_lines, count_lines, report};
+ghost use Rattle.kte_report.specs.Report.{number_line, kind_text, range_line, digits_line, digest_line, line_text, text_lines, size_lines, group_lines, count_lines, report, summary};
 ghost use Rattle.kte_report.specs.Shown.{shown_line, shown_lines};
 
+use crate::hidden::push_hidden;
 use kte_core::Core;
 use kte_doc::Doc;
 use kte_place::Span;
@@ -46,28 +49,118 @@ fn push_parts(core: &Core, out: &mut Vec<u8>) -> Result<(), AllocError>
     ensures err { OnErr result (Keeps out.old.items out.new.items) }
 {
     let doc = core.doc();
-    let (eol, bom) = core.line_end();
     out.extend_from_slice(b"report\n")?;
     push_counts(core, out)?;
     push_ranges(doc, out)?;
-    push_number_line(out, b"hidden", 0)?;
-    push_digest(out, digest_of_saved(doc, eol, bom))?;
+    push_hidden(core, out)?;
+    push_saved_digest(core, out)?;
     push_text(doc, out)
 }
 
-/// Appends the counts of a core.
+/// Appends the summary of a run: the number of its commands, that of its events, the counts of the
+/// core after it, and how many transactions were recovered from its swap file. If out of memory,
+/// `out` is unchanged.
+pub fn push_summary(
+    core: &Core,
+    commands: u32,
+    recovered: u64,
+    out: &mut Vec<u8>,
+) -> Result<(), AllocError>
+    ensures ok { OnOk result (out.new.items ≡ out.old.items
+        ++ summary commands (length core.now.events) (present core.now) recovered) }
+    ensures err { OnErr result (out.new.items ≡ out.old.items) }
+{
+    let start = out.len();
+    let pushed = push_summary_parts(core, commands, recovered, out);
+    if pushed.is_err() {
+        out.truncate(start);
+    }
+    pushed
+}
+
+/// Appends the parts of the summary of a run. If out of memory, some may have been appended.
+#[tactic(auto, using(crate::proofs::ReportLemmas::keeps, crate::proofs::ReportLemmas::keeps_two))]
+fn push_summary_parts(
+    core: &Core,
+    commands: u32,
+    recovered: u64,
+    out: &mut Vec<u8>,
+) -> Result<(), AllocError>
+    ensures ok { OnOk result (out.new.items ≡ out.old.items
+        ++ summary commands (length core.now.events) (present core.now) recovered) }
+    ensures err { OnErr result (Keeps out.old.items out.new.items) }
+{
+    push_run_counts(core, commands, out)?;
+    push_sizes(core, out)?;
+    push_groups(core, out)?;
+    push_range_count(core, out)?;
+    push_saved_digest(core, out)?;
+    push_number_line(out, b"recovered", recovered)
+}
+
+/// Appends how many commands a run had, and how many events its core has.
 #[tactic(auto, using(crate::proofs::ReportLemmas::keeps))]
+fn push_run_counts(core: &Core, commands: u32, out: &mut Vec<u8>) -> Result<(), AllocError>
+    ensures ok { OnOk result (out.new.items ≡ out.old.items
+        ++ (number_line (codes "commands") commands
+        ++ number_line (codes "events") (length core.now.events))) }
+    ensures err { OnErr result (Keeps out.old.items out.new.items) }
+{
+    push_number_line(out, b"commands", u64::from(commands))?;
+    push_number_line(out, b"events", core.journal().len())
+}
+
+/// Appends how many ranges a core has.
+#[tactic(auto, using(crate::proofs::ReportLemmas::keeps))]
+fn push_range_count(core: &Core, out: &mut Vec<u8>) -> Result<(), AllocError>
+    ensures ok { OnOk result (out.new.items ≡ out.old.items
+        ++ number_line (codes "ranges") (length (map.entries (present core.now).ranges))) }
+    ensures err { OnErr result (Keeps out.old.items out.new.items) }
+{
+    let ids = core.doc().range_ids(*out.allocator())?;
+    push_number_line(out, b"ranges", ids.len() as u64)
+}
+
+/// Appends the counts of a core.
+#[tactic(auto, using(crate::proofs::ReportLemmas::keeps, crate::proofs::ReportLemmas::keeps_two))]
 fn push_counts(core: &Core, out: &mut Vec<u8>) -> Result<(), AllocError>
     ensures ok { OnOk result (out.new.items ≡ out.old.items ++ count_lines (present core.now)) }
     ensures err { OnErr result (Keeps out.old.items out.new.items) }
 {
+    push_sizes(core, out)?;
+    push_number_line(out, b"kept", core.doc().stored().len() as u64)?;
+    push_groups(core, out)
+}
+
+/// Appends how many lines, primitives, and units with line ends a core has.
+#[tactic(auto, using(crate::proofs::ReportLemmas::keeps, crate::proofs::ReportLemmas::keeps_two))]
+fn push_sizes(core: &Core, out: &mut Vec<u8>) -> Result<(), AllocError>
+    ensures ok { OnOk result (out.new.items ≡ out.old.items ++ size_lines (present core.now)) }
+    ensures err { OnErr result (Keeps out.old.items out.new.items) }
+{
     let doc = core.doc();
-    let (undo, redo) = core.undo_counts();
     push_number_line(out, b"lines", u64::from(doc.lines()))?;
     push_number_line(out, b"revision", doc.revision())?;
-    push_number_line(out, b"size", doc.size())?;
-    push_number_line(out, b"kept", doc.stored().len() as u64)?;
-    push_groups(out, undo, redo)
+    push_number_line(out, b"size", doc.size())
+}
+
+/// Appends how many groups there are to undo, and to redo.
+fn push_groups(core: &Core, out: &mut Vec<u8>) -> Result<(), AllocError>
+    ensures ok { OnOk result (out.new.items ≡ out.old.items ++ group_lines (present core.now)) }
+    ensures err { OnErr result (Keeps out.old.items out.new.items) }
+{
+    let (undo, redo) = core.undo_counts();
+    push_numbers_line(out, b"undo", undo, redo)
+}
+
+/// Appends the digest of the file that saving would write now.
+fn push_saved_digest(core: &Core, out: &mut Vec<u8>) -> Result<(), AllocError>
+    ensures ok { OnOk result (out.new.items ≡ out.old.items
+        ++ digest_line (saved_form (present core.now).editing)) }
+    ensures err { OnErr result (Keeps out.old.items out.new.items) }
+{
+    let (eol, bom) = core.line_end();
+    push_digest(out, digest_of_saved(core.doc(), eol, bom))
 }
 
 /// Appends a line of a word and a number.
@@ -86,15 +179,21 @@ pub(crate) fn push_number_line(
     Ok(())
 }
 
-/// Appends how many groups there are to undo, and to redo.
-#[tactic(auto, using(crate::proofs::ReportLemmas::keeps))]
-fn push_groups(out: &mut Vec<u8>, undo: u64, redo: u64) -> Result<(), AllocError>
-    ensures ok { OnOk result (out.new.items ≡ out.old.items ++ groups_line undo redo) }
+/// Appends a line of a word and two numbers.
+#[tactic(auto, using(crate::proofs::ReportLemmas::keeps, crate::proofs::ReportLemmas::keeps_two))]
+pub(crate) fn push_numbers_line(
+    out: &mut Vec<u8>,
+    word: &[u8],
+    first: u64,
+    second: u64,
+) -> Result<(), AllocError>
+    ensures ok { OnOk result (out.new.items ≡ out.old.items
+        ++ word.now ++ spell_number first ++ spell_number second ++ 10 ∷ []) }
     ensures err { OnErr result (Keeps out.old.items out.new.items) }
 {
-    out.extend_from_slice(b"undo")?;
-    push_number(out, undo)?;
-    push_number(out, redo)?;
+    out.extend_from_slice(word)?;
+    push_number(out, first)?;
+    push_number(out, second)?;
     out.push(b'\n')?;
     Ok(())
 }

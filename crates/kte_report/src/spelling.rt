@@ -9,6 +9,7 @@ ghost use Rattle.kte_report.specs.Journal.{head};
 
 use itoa::Buffer;
 use kte_core::{Event, OutsideCall, Refusal, Reply, Request};
+use kte_fold::FoldRefused;
 use kte_place::{Place, Span, Spans};
 use kte_script::push::{
     push_closes, push_number, push_number_or_none, push_place, push_span_or_invalid, push_spans,
@@ -105,6 +106,7 @@ fn push_reply(out: &mut Vec<u8>, reply: &Reply) -> Result<(), AllocError>
         Reply::Locked { revision } => push_numbers(out, b"locked", &[*revision]),
         Reply::Unlocked { revision } => push_numbers(out, b"unlocked", &[*revision]),
         Reply::Landed { span } => push_landed(out, span),
+        Reply::Found { spans } => push_found(out, spans),
         Reply::Posted { job } => push_numbers(out, b"posted", &[u64::from(*job)]),
         Reply::Asked => out.extend_from_slice(b"asked"),
         Reply::Took { job, revision } => push_numbers(out, b"took", &[u64::from(*job), *revision]),
@@ -139,6 +141,16 @@ fn push_landed(out: &mut Vec<u8>, span: &Option<Span>) -> Result<(), AllocError>
     push_span_or_invalid(out, span)
 }
 
+#[tactic(auto, using(crate::proofs::WritingLemmas::keeps, crate::proofs::WritingLemmas::one_field))]
+fn push_found(out: &mut Vec<u8>, spans: &Spans) -> Result<(), AllocError>
+    ensures ok { OnOk result (out.new.items
+        ≡ out.old.items ++ reply_spelling (Reply.Found spans.now)) }
+    ensures err { OnErr result (Keeps out.old.items out.new.items) }
+{
+    out.extend_from_slice(b"found")?;
+    push_spans(out, spans)
+}
+
 #[tactic(auto, using(crate::proofs::WritingLemmas::keeps))]
 fn push_refused(out: &mut Vec<u8>, refusal: &Refusal) -> Result<(), AllocError>
     ensures ok { OnOk result (out.new.items
@@ -161,6 +173,9 @@ fn push_refusal(out: &mut Vec<u8>, refusal: &Refusal) -> Result<(), AllocError>
         Refusal::Nothing => out.extend_from_slice(b"nothing"),
         Refusal::RevisionsFull { revision } => push_numbers(out, b"revisionsfull", &[*revision]),
         Refusal::NoRange { id } => push_numbers(out, b"norange", &[*id]),
+        Refusal::NoFold { id } => push_numbers(out, b"nofold", &[*id]),
+        Refusal::Fold(refused) => push_fold_refused(out, refused),
+        Refusal::NoMatch => out.extend_from_slice(b"nomatch"),
         Refusal::NotLocked { revision, oldest } => push_notlocked(out, *revision, *oldest),
         Refusal::NotOwned { revision } => push_numbers(out, b"notowned", &[*revision]),
         Refusal::NoJob { closed } => push_nojob(out, *closed),
@@ -180,6 +195,18 @@ fn push_misfit(out: &mut Vec<u8>, misfit: &Misfit) -> Result<(), AllocError>
         Misfit::SplitsPair { line, column } => push_at(out, b"splitspair", *line, *column),
         Misfit::FirstLine => out.extend_from_slice(b"firstline"),
         Misfit::TooLarge { size } => push_numbers(out, b"toolarge", &[*size]),
+    }
+}
+
+fn push_fold_refused(out: &mut Vec<u8>, refused: &FoldRefused) -> Result<(), AllocError>
+    ensures ok { OnOk result (out.new.items
+        ≡ out.old.items ++ refusal_spelling (Refusal.Fold refused.now)) }
+    ensures err { OnErr result (Keeps out.old.items out.new.items) }
+{
+    match refused {
+        FoldRefused::OutOfText => out.extend_from_slice(b"outoftext"),
+        FoldRefused::EmptySpan => out.extend_from_slice(b"emptyspan"),
+        FoldRefused::Crosses { id } => push_numbers(out, b"crosses", &[*id]),
     }
 }
 

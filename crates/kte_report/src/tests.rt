@@ -3,6 +3,7 @@ use kte_command::Command;
 use kte_core::{Event, Journal, OutsideCall, Refusal, Reply, Request};
 use kte_edit::Change;
 use kte_find::Rule;
+use kte_fold::FoldRefused;
 use kte_place::{Empty, Expand, Place, Span, Spans};
 use kte_text::{Misfit, load};
 use std::alloc::Global;
@@ -10,10 +11,12 @@ use std::process::Abort;
 use std::test::Fail;
 
 /// Requests of each kind with the replies that they may have, by hand.
-const TEXT: &[u8] = b"journal 14\n\
+const TEXT: &[u8] = b"journal 16\n\
 0 insert 0 5 \"a\\\"\\\\\\n\xC3\xA9\" = edited 1 1 0\n\
 0 range 1 3 2 0 left void = range 1 1 3 2 0\n\
 0 droprange 18446744073709551615 = refused norange 18446744073709551615\n\
+0 fold 0 4 1 0 = range 2 0 4 1 0\n\
+0 unfold 2 = dropped 2\n\
 0 check word \"ab\" = posted 1\n\
 0 check long 80 = posted 2\n\
 0 sync = asked\n\
@@ -28,7 +31,7 @@ const TEXT: &[u8] = b"journal 14\n\
 
 /// Every command, every other request, every reply and every refusal, by hand. The replies are not
 /// those that the requests have: a journal's text may hold any.
-const EVERY: &[u8] = b"journal 36\n\
+const EVERY: &[u8] = b"journal 41\n\
 0 insert 0 5 \"a\\\"\\\\\\n\\t\\x01\xC3\xA9\" = edited 1 1 0\n\
 0 wrap 0 3 = cut 10 20 0\n\
 0 unwrap 1 = depth 4294967295\n\
@@ -47,6 +50,11 @@ const EVERY: &[u8] = b"journal 36\n\
 0 unlock 4 = noted\n\
 0 land 4 0 0 1 0 right allow = closed\n\
 0 land 4 0 0 1 0 both void = refused noline 1\n\
+0 fold 1 0 2 0 = found\n\
+0 unfold 18446744073709551615 = found 0 1 0 3 2 0 10 4\n\
+0 find 0 0 \"a\" case part = refused nofold 18446744073709551615\n\
+0 findback 3 7 \"\xC3\xA9\" nocase word = refused outoftext\n\
+0 all \"\\t\" case word = refused emptyspan\n\
 0 check word \"ab\" = refused nocolumn 1 18446744073709551615\n\
 0 check blanks = refused splitspair 4 5\n\
 0 check long 80 = refused firstline\n\
@@ -63,8 +71,8 @@ const EVERY: &[u8] = b"journal 36\n\
 0 outcome sync ok = refused nojob closed\n\
 0 outcome sync failed = refused nottaken 9\n\
 0 outcome save ok = refused closed\n\
-0 outcome save failed = noted\n\
-0 close = closed\n";
+0 outcome save failed = refused crosses 10\n\
+0 close = refused nomatch\n";
 
 fn add(journal: &mut Journal, seat: u32, request: Request, reply: Reply) -> Result<(), Fail> {
     journal.push(Event {
@@ -85,6 +93,13 @@ fn span(start: (u32, u64), end: (u32, u64)) -> Span {
         column: end.1,
     };
     Span::new(start, end)
+}
+
+fn two_spans(alloc: Global) -> Result<Spans, Fail> {
+    let mut spans = Spans::new(alloc);
+    spans.push(span((0, 1), (0, 3)))?;
+    spans.push(span((2, 0), (10, 4)))?;
+    Ok(spans)
 }
 
 fn add_commands(alloc: Global, journal: &mut Journal) -> Result<(), Fail> {
@@ -116,6 +131,16 @@ fn add_commands(alloc: Global, journal: &mut Journal) -> Result<(), Fail> {
     let refused = Reply::Refused(Refusal::NoRange { id: u64::MAX });
     let drop = Command::DropRange { id: u64::MAX };
     add(journal, 0, Request::Cmd(drop), refused)?;
+    let folded = Reply::Range {
+        id: 2,
+        span: Some(span((0, 4), (1, 0))),
+    };
+    let fold = Command::Fold {
+        span: span((1, 0), (0, 4)),
+    };
+    add(journal, 0, Request::Cmd(fold), folded)?;
+    let unfold = Command::Unfold { id: 2 };
+    add(journal, 0, Request::Cmd(unfold), Reply::Dropped { id: 2 })?;
     let word = load(alloc, b"ab")?.text.into_lines().pop();
     if let Some(word) = word {
         let check = Command::Check {
@@ -136,9 +161,7 @@ fn add_others(alloc: Global, journal: &mut Journal) -> Result<(), Fail> {
         revision: 4,
     };
     add(journal, 3, Request::Take, took)?;
-    let mut findings = Spans::new(alloc);
-    findings.push(span((0, 1), (0, 3)))?;
-    findings.push(span((2, 0), (10, 4)))?;
+    let findings = two_spans(alloc)?;
     let delivered = Reply::Delivered {
         job: 1,
         first: 5,
@@ -230,6 +253,18 @@ fn replies_are_written_and_read(rt: HostRuntime) -> Result<(), Fail> {
         (Reply::Unlocked { revision: 9 }, "unlocked 9"),
         (Reply::Landed { span: at.0 }, "landed 0 1 2 3"),
         (Reply::Landed { span: at.1 }, "landed invalid"),
+        (
+            Reply::Found {
+                spans: Spans::new(alloc),
+            },
+            "found",
+        ),
+        (
+            Reply::Found {
+                spans: two_spans(alloc)?,
+            },
+            "found 0 1 0 3 2 0 10 4",
+        ),
         (Reply::Posted { job: 1 }, "posted 1"),
         (Reply::Asked, "asked"),
         (
@@ -298,6 +333,11 @@ fn refusals_are_written_and_read(rt: HostRuntime) -> Result<(), Fail> {
         ),
         (Refusal::NotOwned { revision: 6 }, "notowned 6"),
         (Refusal::NoRange { id: 7 }, "norange 7"),
+        (Refusal::NoFold { id: 8 }, "nofold 8"),
+        (Refusal::Fold(FoldRefused::OutOfText), "outoftext"),
+        (Refusal::Fold(FoldRefused::EmptySpan), "emptyspan"),
+        (Refusal::Fold(FoldRefused::Crosses { id: 10 }), "crosses 10"),
+        (Refusal::NoMatch, "nomatch"),
         (Refusal::RevisionsFull { revision: 8 }, "revisionsfull 8"),
         (Refusal::NoJob { closed: false }, "nojob open"),
         (Refusal::NoJob { closed: true }, "nojob closed"),
@@ -420,7 +460,7 @@ fn the_bad_line_is_named(rt: HostRuntime) -> Result<(), Fail> {
 #[test]
 fn a_line_of_no_event_is_bad(rt: HostRuntime) -> Result<(), Fail> {
     let alloc = rt.alloc();
-    let table: [&[u8]; 34] = [
+    let table: [&[u8]; 42] = [
         b"",
         b"0",
         b"00 close = closed",
@@ -448,6 +488,14 @@ fn a_line_of_no_event_is_bad(rt: HostRuntime) -> Result<(), Fail> {
         b"0 unwrap 4294967296 = nothing",
         b"0 deliver 1 0 0 0 = noted",
         b"0 deliver 1 0 1 0 0 = noted",
+        b"0 lock = found 0 0 0",
+        b"0 lock = found 0 1 0 0",
+        b"0 lock = found none",
+        b"0 lock = refused outoftext 1",
+        b"0 lock = refused crosses",
+        b"0 lock = nofold 1",
+        b"0 fold 0 1 0 0 = noted",
+        b"0 find 0 0 \"\" case part = noted",
         b"0 range 0 1 0 0 none void = noted",
         b"0 check word \"\" = posted 1",
         b"0 outcome append = noted",

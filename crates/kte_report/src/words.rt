@@ -3,10 +3,11 @@ ghost use Rattle.std.specs.Prelude.{◌≡◌};
 ghost use Rattle.kte_script.specs.declared.limits.Limits.TheVariants.{Journal};
 ghost use Rattle.kte_script.specs.Table.{row_in};
 ghost use Rattle.kte_script.specs.Reading.{Moves, row_at, row_or_fault, front_at};
-ghost use Rattle.kte_report.specs.EventTable.{deliver_row, call_rows, nocolumn_row, splitspair_row, notlocked_row, other_refusal_rows, refusal_rows, edited_row, cut_row, range_row, took_row, delivered_row, other_reply_rows, reply_rows};
+ghost use Rattle.kte_report.specs.EventTable.{deliver_row, call_rows, nocolumn_row, splitspair_row, notlocked_row, range_refusal_rows, other_refusal_rows, refusal_rows, edited_row, cut_row, range_row, took_row, delivered_row, other_reply_rows, reply_rows};
 ghost use Rattle.kte_report.specs.EventReading.{request_at, reply_at, equals_at, event_at};
 
 use kte_core::{Event, OutsideCall, Refusal, Reply, Request};
+use kte_fold::FoldRefused;
 use kte_place::Place;
 use kte_script::words::Words;
 use kte_script::{Limits, ReadError};
@@ -21,7 +22,7 @@ pub(crate) fn take_event(alloc: Global, words: &mut Words) -> Result<Event, Read
     let seat = words.short(Limits::Journal)?;
     let request = take_request(alloc, words)?;
     take_equals(words)?;
-    let reply = take_reply(words)?;
+    let reply = take_reply(alloc, words)?;
     Ok(Event {
         seat,
         request,
@@ -76,7 +77,7 @@ fn take_deliver(alloc: Global, words: &mut Words) -> Result<Request, ReadError>
     Ok(Request::Deliver { job, findings })
 }
 
-/// Takes what stands after `outcome`.
+/// Takes the words after `outcome`.
 #[tactic(auto, unfolding(kte_script::specs::Reading::front_at, kte_script::specs::Reading::row_at))]
 fn take_outcome(words: &mut Words) -> Result<Request, ReadError>
     ensures { Moves result words.new.rest.now (front_at Journal call_rows words.old.rest.now) }
@@ -97,7 +98,7 @@ fn take_outcome(words: &mut Words) -> Result<Request, ReadError>
 
 /// Takes a reply.
 #[tactic(auto, unfolding(crate::specs::EventReading::reply_at, kte_script::specs::Reading::front_at))]
-fn take_reply(words: &mut Words) -> Result<Reply, ReadError>
+fn take_reply(alloc: Global, words: &mut Words) -> Result<Reply, ReadError>
     ensures { Moves result words.new.rest.now (reply_at words.old.rest.now) }
 {
     let (word, left) = words.word();
@@ -105,13 +106,18 @@ fn take_reply(words: &mut Words) -> Result<Reply, ReadError>
         let refusal = take_refusal(words)?;
         Ok(Reply::Refused(refusal))
     } else {
-        take_reply_of(words, word, left)
+        take_reply_of(alloc, words, word, left)
     }
 }
 
 /// Takes the fields of the reply that a word names. From that word on `left` bytes are left.
 #[tactic(auto, unfolding(kte_script::specs::Reading::row_at))]
-fn take_reply_of(words: &mut Words, word: &[u8], left: usize) -> Result<Reply, ReadError>
+fn take_reply_of(
+    alloc: Global,
+    words: &mut Words,
+    word: &[u8],
+    left: usize,
+) -> Result<Reply, ReadError>
     ensures { Moves result words.new.rest.now
         (row_or_fault Journal (row_in reply_rows word.now) left words.old.rest.now) }
 {
@@ -136,6 +142,9 @@ fn take_reply_of(words: &mut Words, word: &[u8], left: usize) -> Result<Reply, R
     } else if word == b"landed".as_slice() {
         let span = words.span_or_invalid(Limits::Journal)?;
         Ok(Reply::Landed { span })
+    } else if word == b"found".as_slice() {
+        let spans = words.spans(alloc, Limits::Journal)?;
+        Ok(Reply::Found { spans })
     } else {
         take_other_reply(words, word, left)
     }
@@ -225,11 +234,20 @@ fn take_delivered(words: &mut Words) -> Result<Reply, ReadError>
 }
 
 /// Takes a refusal.
-#[tactic(auto, unfolding(kte_script::specs::Reading::front_at, kte_script::specs::Reading::row_at))]
+#[tactic(auto, unfolding(kte_script::specs::Reading::front_at))]
 fn take_refusal(words: &mut Words) -> Result<Refusal, ReadError>
     ensures { Moves result words.new.rest.now (front_at Journal refusal_rows words.old.rest.now) }
 {
     let (word, left) = words.word();
+    take_refusal_of(words, word, left)
+}
+
+/// Takes the fields of the refusal that a word names. From that word on `left` bytes are left.
+#[tactic(auto, unfolding(kte_script::specs::Reading::row_at))]
+fn take_refusal_of(words: &mut Words, word: &[u8], left: usize) -> Result<Refusal, ReadError>
+    ensures { Moves result words.new.rest.now
+        (row_or_fault Journal (row_in refusal_rows word.now) left words.old.rest.now) }
+{
     if word == b"noline".as_slice() {
         let line = words.line(Limits::Journal)?;
         Ok(Refusal::Misfit(Misfit::NoLine { line }))
@@ -280,9 +298,6 @@ fn take_other_refusal(words: &mut Words, word: &[u8], left: usize) -> Result<Ref
     } else if word == b"revisionsfull".as_slice() {
         let revision = words.long(Limits::Journal)?;
         Ok(Refusal::RevisionsFull { revision })
-    } else if word == b"norange".as_slice() {
-        let id = words.long(Limits::Journal)?;
-        Ok(Refusal::NoRange { id })
     } else if word == b"notlocked".as_slice() {
         take_notlocked(words)
     } else if word == b"notowned".as_slice() {
@@ -296,6 +311,32 @@ fn take_other_refusal(words: &mut Words, word: &[u8], left: usize) -> Result<Ref
         Ok(Refusal::NotTaken { job })
     } else if word == b"closed".as_slice() {
         Ok(Refusal::Closed)
+    } else {
+        take_range_refusal(words, word, left)
+    }
+}
+
+/// The same for the refusals about ranges, folds and searches.
+#[tactic(auto, unfolding(kte_script::specs::Reading::row_at))]
+fn take_range_refusal(words: &mut Words, word: &[u8], left: usize) -> Result<Refusal, ReadError>
+    ensures { Moves result words.new.rest.now
+        (row_or_fault Journal (row_in range_refusal_rows word.now) left words.old.rest.now) }
+{
+    if word == b"norange".as_slice() {
+        let id = words.long(Limits::Journal)?;
+        Ok(Refusal::NoRange { id })
+    } else if word == b"nofold".as_slice() {
+        let id = words.long(Limits::Journal)?;
+        Ok(Refusal::NoFold { id })
+    } else if word == b"outoftext".as_slice() {
+        Ok(Refusal::Fold(FoldRefused::OutOfText))
+    } else if word == b"emptyspan".as_slice() {
+        Ok(Refusal::Fold(FoldRefused::EmptySpan))
+    } else if word == b"crosses".as_slice() {
+        let id = words.long(Limits::Journal)?;
+        Ok(Refusal::Fold(FoldRefused::Crosses { id }))
+    } else if word == b"nomatch".as_slice() {
+        Ok(Refusal::NoMatch)
     } else {
         Err(ReadError::Misfit { left })
     }

@@ -51,55 +51,23 @@ pub err_same : {T : Type 0} (a b : Status) → ◌≡◌ {A = Result T Status} (
 err_same a b same = cc
 
 edit-of-script : (given : Status) → is_of_script given ≡ true → is_of_edit given ≡ true
-edit-of-script status.Ok only = absurd (cc)
 edit-of-script status.NoMemory only = refl
-edit-of-script (status.BadWords at) only = absurd (cc)
 edit-of-script status.ReadFault only = refl
 edit-of-script (status.BadScript fault) only = refl
-edit-of-script status.DiskFault only = absurd (cc)
-edit-of-script (status.NotUtf8 at) only = absurd (cc)
-edit-of-script (status.TooLarge size) only = absurd (cc)
-edit-of-script (status.SwapPresent bytes) only = absurd (cc)
-edit-of-script status.SwapLost only = absurd (cc)
-edit-of-script status.WriteFault only = absurd (cc)
-edit-of-script status.NoSwap only = absurd (cc)
-edit-of-script status.Version only = absurd (cc)
-edit-of-script (status.FileChanged kept found) only = absurd (cc)
-edit-of-script (status.Damaged at done) only = absurd (cc)
+edit-of-script _ only = absurd (cc)
 
 edit-of-swap : (given : Status) → is_of_swap given ≡ true → is_of_edit given ≡ true
-edit-of-swap status.Ok only = absurd (cc)
 edit-of-swap status.NoMemory only = refl
-edit-of-swap (status.BadWords at) only = absurd (cc)
-edit-of-swap status.ReadFault only = absurd (cc)
-edit-of-swap (status.BadScript fault) only = absurd (cc)
 edit-of-swap status.DiskFault only = refl
-edit-of-swap (status.NotUtf8 at) only = absurd (cc)
-edit-of-swap (status.TooLarge size) only = absurd (cc)
 edit-of-swap (status.SwapPresent bytes) only = refl
-edit-of-swap status.SwapLost only = absurd (cc)
-edit-of-swap status.WriteFault only = absurd (cc)
-edit-of-swap status.NoSwap only = absurd (cc)
-edit-of-swap status.Version only = absurd (cc)
-edit-of-swap (status.FileChanged kept found) only = absurd (cc)
-edit-of-swap (status.Damaged at done) only = absurd (cc)
+edit-of-swap _ only = absurd (cc)
 
 edit-of-file : (given : Status) → is_of_file given ≡ true → is_of_edit given ≡ true
-edit-of-file status.Ok only = absurd (cc)
 edit-of-file status.NoMemory only = refl
-edit-of-file (status.BadWords at) only = absurd (cc)
-edit-of-file status.ReadFault only = absurd (cc)
-edit-of-file (status.BadScript fault) only = absurd (cc)
 edit-of-file status.DiskFault only = refl
 edit-of-file (status.NotUtf8 at) only = refl
 edit-of-file (status.TooLarge size) only = refl
-edit-of-file (status.SwapPresent bytes) only = absurd (cc)
-edit-of-file status.SwapLost only = absurd (cc)
-edit-of-file status.WriteFault only = absurd (cc)
-edit-of-file status.NoSwap only = absurd (cc)
-edit-of-file status.Version only = absurd (cc)
-edit-of-file (status.FileChanged kept found) only = absurd (cc)
-edit-of-file (status.Damaged at done) only = absurd (cc)
+edit-of-file _ only = absurd (cc)
 
 -- the statuses that come once all was read
 abbrev is_late : Status → Bool
@@ -113,19 +81,10 @@ is_late _ = false
 edit-of-late : (given : Status) → is_late given ≡ true → is_of_edit given ≡ true
 edit-of-late status.Ok only = refl
 edit-of-late status.NoMemory only = refl
-edit-of-late (status.BadWords at) only = absurd (cc)
-edit-of-late status.ReadFault only = absurd (cc)
-edit-of-late (status.BadScript fault) only = absurd (cc)
 edit-of-late status.DiskFault only = refl
-edit-of-late (status.NotUtf8 at) only = absurd (cc)
-edit-of-late (status.TooLarge size) only = absurd (cc)
-edit-of-late (status.SwapPresent bytes) only = absurd (cc)
 edit-of-late status.SwapLost only = refl
 edit-of-late status.WriteFault only = refl
-edit-of-late status.NoSwap only = absurd (cc)
-edit-of-late status.Version only = absurd (cc)
-edit-of-late (status.FileChanged kept found) only = absurd (cc)
-edit-of-late (status.Damaged at done) only = absurd (cc)
+edit-of-late _ only = absurd (cc)
 
 -- the statuses of a run in which words, script and file are of their forms, and there is no swap file
 abbrev Complete : Status → Type 0
@@ -134,71 +93,29 @@ Complete given = Contains (status.Ok ∷ status.ReadFault ∷ status.DiskFault �
 complete-late : (given : Status) → is_late given ≡ true → Complete given
 complete-late status.Ok only = (0, omega arith, refl)
 complete-late status.NoMemory only = (5, omega arith, refl)
-complete-late (status.BadWords at) only = absurd (cc)
-complete-late status.ReadFault only = absurd (cc)
-complete-late (status.BadScript fault) only = absurd (cc)
 complete-late status.DiskFault only = (2, omega arith, refl)
-complete-late (status.NotUtf8 at) only = absurd (cc)
-complete-late (status.TooLarge size) only = absurd (cc)
-complete-late (status.SwapPresent bytes) only = absurd (cc)
 complete-late status.SwapLost only = (3, omega arith, refl)
 complete-late status.WriteFault only = (4, omega arith, refl)
-complete-late status.NoSwap only = absurd (cc)
-complete-late status.Version only = absurd (cc)
-complete-late (status.FileChanged kept found) only = absurd (cc)
-complete-late (status.Damaged at done) only = absurd (cc)
+complete-late _ only = absurd (cc)
 
 late-from : (ending : Status) (before after : DiskCall → ℕ) → Ended ending before after → is_late ending ≡ true
 late-from status.Ok before after ended = refl
-late-from status.NoMemory before after ended = absurd ended
-late-from (status.BadWords at) before after ended = absurd ended
-late-from status.ReadFault before after ended = absurd ended
-late-from (status.BadScript fault) before after ended = absurd ended
 late-from status.DiskFault before after ended = refl
-late-from (status.NotUtf8 at) before after ended = absurd ended
-late-from (status.TooLarge size) before after ended = absurd ended
-late-from (status.SwapPresent bytes) before after ended = absurd ended
 late-from status.SwapLost before after ended = refl
-late-from status.WriteFault before after ended = absurd ended
-late-from status.NoSwap before after ended = absurd ended
-late-from status.Version before after ended = absurd ended
-late-from (status.FileChanged kept found) before after ended = absurd ended
-late-from (status.Damaged at done) before after ended = absurd ended
+late-from _ before after ended = absurd ended
 
 -- of these the end of a run that was written is no fault of the sink
 late-wrote : (ending : Status) (before after : DiskCall → ℕ) → Ended ending before after → (ending ≡ status.WriteFault) ⊎ (ending ≡ status.NoMemory) → ⊥
 late-wrote status.Ok before after ended which = elim which [ inl is ↦ absurd (cc) | inr is ↦ absurd (cc) ]
-late-wrote status.NoMemory before after ended which = absurd ended
-late-wrote (status.BadWords at) before after ended which = absurd ended
-late-wrote status.ReadFault before after ended which = absurd ended
-late-wrote (status.BadScript fault) before after ended which = absurd ended
 late-wrote status.DiskFault before after ended which = elim which [ inl is ↦ absurd (cc) | inr is ↦ absurd (cc) ]
-late-wrote (status.NotUtf8 at) before after ended which = absurd ended
-late-wrote (status.TooLarge size) before after ended which = absurd ended
-late-wrote (status.SwapPresent bytes) before after ended which = absurd ended
 late-wrote status.SwapLost before after ended which = elim which [ inl is ↦ absurd (cc) | inr is ↦ absurd (cc) ]
-late-wrote status.WriteFault before after ended which = absurd ended
-late-wrote status.NoSwap before after ended which = absurd ended
-late-wrote status.Version before after ended which = absurd ended
-late-wrote (status.FileChanged kept found) before after ended which = absurd ended
-late-wrote (status.Damaged at done) before after ended which = absurd ended
+late-wrote _ before after ended which = absurd ended
 
 late-replaced : (ending : Status) (before after : DiskCall → ℕ) → Ended ending before after → before Replace < after Replace → ending ≡ status.DiskFault
 late-replaced status.Ok before after ended more = absurd (omega (arith, ended, more))
-late-replaced status.NoMemory before after ended more = absurd ended
-late-replaced (status.BadWords at) before after ended more = absurd ended
-late-replaced status.ReadFault before after ended more = absurd ended
-late-replaced (status.BadScript fault) before after ended more = absurd ended
 late-replaced status.DiskFault before after ended more = refl
-late-replaced (status.NotUtf8 at) before after ended more = absurd ended
-late-replaced (status.TooLarge size) before after ended more = absurd ended
-late-replaced (status.SwapPresent bytes) before after ended more = absurd ended
 late-replaced status.SwapLost before after ended more = absurd (let stays = ended.0 in omega (arith, stays, more))
-late-replaced status.WriteFault before after ended more = absurd ended
-late-replaced status.NoSwap before after ended more = absurd ended
-late-replaced status.Version before after ended more = absurd ended
-late-replaced (status.FileChanged kept found) before after ended more = absurd ended
-late-replaced (status.Damaged at done) before after ended more = absurd ended
+late-replaced _ before after ended more = absurd ended
 
 -- ---- the script
 
@@ -213,61 +130,28 @@ bad-spells (Some bytes) fault spells bad = let never = rw bad at spells in cc
 
 -- what ends a run at a script that spells commands
 script-spelled : (given first second : Status) → is_of_script given ≡ true → ((fault : ScriptFault) → given ≡ status.BadScript fault → ⊥) → Contains (first ∷ second ∷ status.ReadFault ∷ status.NoMemory ∷ []) given
-script-spelled status.Ok first second only spelled = absurd (cc)
 script-spelled status.NoMemory first second only spelled = (3, omega arith, refl)
-script-spelled (status.BadWords at) first second only spelled = absurd (cc)
 script-spelled status.ReadFault first second only spelled = (2, omega arith, refl)
 script-spelled (status.BadScript fault) first second only spelled = absurd (spelled fault refl)
-script-spelled status.DiskFault first second only spelled = absurd (cc)
-script-spelled (status.NotUtf8 at) first second only spelled = absurd (cc)
-script-spelled (status.TooLarge size) first second only spelled = absurd (cc)
-script-spelled (status.SwapPresent bytes) first second only spelled = absurd (cc)
-script-spelled status.SwapLost first second only spelled = absurd (cc)
-script-spelled status.WriteFault first second only spelled = absurd (cc)
-script-spelled status.NoSwap first second only spelled = absurd (cc)
-script-spelled status.Version first second only spelled = absurd (cc)
-script-spelled (status.FileChanged kept found) first second only spelled = absurd (cc)
-script-spelled (status.Damaged at done) first second only spelled = absurd (cc)
+script-spelled _ first second only spelled = absurd (cc)
 
 -- what ends a run at a script that is at fault
 script-bad : (given : Status) (left : Option (List ℕ)) (fault : ScriptFault) → is_of_script given ≡ true → ((other : ScriptFault) → given ≡ status.BadScript other → IfSome left (λ bytes. script_of bytes ≡ Err other)) → IsSomeAnd left (λ bytes. script_of bytes ≡ Err fault) → Contains (status.BadScript fault ∷ status.ReadFault ∷ status.NoMemory ∷ []) given
 script-bad given None fault only told bad = absurd bad
-script-bad status.Ok (Some bytes) fault only told bad = absurd (cc)
 script-bad status.NoMemory (Some bytes) fault only told bad = (2, omega arith, refl)
-script-bad (status.BadWords at) (Some bytes) fault only told bad = absurd (cc)
 script-bad status.ReadFault (Some bytes) fault only told bad = (1, omega arith, refl)
 script-bad (status.BadScript other) (Some bytes) fault only told bad =
     let faults : script_of bytes ≡ Err other = told other refl in
     let same : fault ≡ other = cc (bad, faults) in
     (0, omega arith, ap status.BadScript same)
-script-bad status.DiskFault (Some bytes) fault only told bad = absurd (cc)
-script-bad (status.NotUtf8 at) (Some bytes) fault only told bad = absurd (cc)
-script-bad (status.TooLarge size) (Some bytes) fault only told bad = absurd (cc)
-script-bad (status.SwapPresent size) (Some bytes) fault only told bad = absurd (cc)
-script-bad status.SwapLost (Some bytes) fault only told bad = absurd (cc)
-script-bad status.WriteFault (Some bytes) fault only told bad = absurd (cc)
-script-bad status.NoSwap (Some bytes) fault only told bad = absurd (cc)
-script-bad status.Version (Some bytes) fault only told bad = absurd (cc)
-script-bad (status.FileChanged kept found) (Some bytes) fault only told bad = absurd (cc)
-script-bad (status.Damaged at done) (Some bytes) fault only told bad = absurd (cc)
+script-bad _ (Some bytes) fault only told bad = absurd (cc)
 
 -- what ends a run that reads its script, if all are of their forms
 script-complete : (given : Status) → is_of_script given ≡ true → ((fault : ScriptFault) → given ≡ status.BadScript fault → ⊥) → Complete given
-script-complete status.Ok only spelled = absurd (cc)
 script-complete status.NoMemory only spelled = (5, omega arith, refl)
-script-complete (status.BadWords at) only spelled = absurd (cc)
 script-complete status.ReadFault only spelled = (1, omega arith, refl)
 script-complete (status.BadScript fault) only spelled = absurd (spelled fault refl)
-script-complete status.DiskFault only spelled = absurd (cc)
-script-complete (status.NotUtf8 at) only spelled = absurd (cc)
-script-complete (status.TooLarge size) only spelled = absurd (cc)
-script-complete (status.SwapPresent bytes) only spelled = absurd (cc)
-script-complete status.SwapLost only spelled = absurd (cc)
-script-complete status.WriteFault only spelled = absurd (cc)
-script-complete status.NoSwap only spelled = absurd (cc)
-script-complete status.Version only spelled = absurd (cc)
-script-complete (status.FileChanged kept found) only spelled = absurd (cc)
-script-complete (status.Damaged at done) only spelled = absurd (cc)
+script-complete _ only spelled = absurd (cc)
 
 -- ---- files that are told, or not
 
@@ -333,39 +217,17 @@ no-swap (Some s) bytes there empty = there.1 empty
 
 -- what ends a run that looks for a swap file
 swap-ends : (given : Status) → is_of_swap given ≡ true → ((bytes : ℕ) → given ≡ status.SwapPresent bytes → ⊥) → (given ≡ status.DiskFault) ⊎ (given ≡ status.NoMemory)
-swap-ends status.Ok only absent = absurd (cc)
 swap-ends status.NoMemory only absent = inr refl
-swap-ends (status.BadWords at) only absent = absurd (cc)
-swap-ends status.ReadFault only absent = absurd (cc)
-swap-ends (status.BadScript fault) only absent = absurd (cc)
 swap-ends status.DiskFault only absent = inl refl
-swap-ends (status.NotUtf8 at) only absent = absurd (cc)
-swap-ends (status.TooLarge size) only absent = absurd (cc)
 swap-ends (status.SwapPresent bytes) only absent = absurd (absent bytes refl)
-swap-ends status.SwapLost only absent = absurd (cc)
-swap-ends status.WriteFault only absent = absurd (cc)
-swap-ends status.NoSwap only absent = absurd (cc)
-swap-ends status.Version only absent = absurd (cc)
-swap-ends (status.FileChanged kept found) only absent = absurd (cc)
-swap-ends (status.Damaged at done) only absent = absurd (cc)
+swap-ends _ only absent = absurd (cc)
 
 swap-there : (given : Status) (size : ℕ) → is_of_swap given ≡ true → ((bytes : ℕ) → given ≡ status.SwapPresent bytes → bytes ≡ size)
     → Contains (status.SwapPresent size ∷ status.DiskFault ∷ status.ReadFault ∷ status.NoMemory ∷ []) given
-swap-there status.Ok size only there = absurd (cc)
 swap-there status.NoMemory size only there = (3, omega arith, refl)
-swap-there (status.BadWords at) size only there = absurd (cc)
-swap-there status.ReadFault size only there = absurd (cc)
-swap-there (status.BadScript fault) size only there = absurd (cc)
 swap-there status.DiskFault size only there = (1, omega arith, refl)
-swap-there (status.NotUtf8 at) size only there = absurd (cc)
-swap-there (status.TooLarge large) size only there = absurd (cc)
 swap-there (status.SwapPresent bytes) size only there = (0, omega arith, ap status.SwapPresent (sym (there bytes refl)))
-swap-there status.SwapLost size only there = absurd (cc)
-swap-there status.WriteFault size only there = absurd (cc)
-swap-there status.NoSwap size only there = absurd (cc)
-swap-there status.Version size only there = absurd (cc)
-swap-there (status.FileChanged kept found) size only there = absurd (cc)
-swap-there (status.Damaged at done) size only there = absurd (cc)
+swap-there _ size only there = absurd (cc)
 
 -- one of two statuses is among others with them
 one-of-file : (given first : Status) → (given ≡ status.DiskFault) ⊎ (given ≡ status.NoMemory) → Contains (first ∷ status.DiskFault ∷ status.ReadFault ∷ status.NoMemory ∷ []) given
@@ -431,22 +293,12 @@ file-refused given refusal (inr (inr is)) = (3, omega arith, sym is)
 
 -- what ends a run at a file that is loadable
 file-loadable : (given : Status) (saved : Option (List ℕ)) → is_of_file given ≡ true → ((fault : LoadFault) → fault ≢ load.NoMemory → given ≡ file_status fault → IfSome saved (λ file. Refuses file fault)) → IsSomeAnd saved IsLoadable → Complete given
-file-loadable status.Ok saved only refused loadable = absurd (cc)
 file-loadable status.NoMemory saved only refused loadable = (5, omega arith, refl)
-file-loadable (status.BadWords at) saved only refused loadable = absurd (cc)
-file-loadable status.ReadFault saved only refused loadable = absurd (cc)
-file-loadable (status.BadScript fault) saved only refused loadable = absurd (cc)
 file-loadable status.DiskFault saved only refused loadable = (2, omega arith, refl)
 file-loadable (status.NotUtf8 at) saved only refused loadable = absurd (loadable-refused saved (load.NotUtf8 at) loadable (refused (load.NotUtf8 at) (λ same. cc) refl))
 file-loadable (status.TooLarge None) saved only refused loadable = absurd (loadable-refused saved load.LongFile loadable (refused load.LongFile (λ same. cc) refl))
 file-loadable (status.TooLarge (Some size)) saved only refused loadable = absurd (loadable-refused saved (load.TooLarge size) loadable (refused (load.TooLarge size) (λ same. cc) refl))
-file-loadable (status.SwapPresent bytes) saved only refused loadable = absurd (cc)
-file-loadable status.SwapLost saved only refused loadable = absurd (cc)
-file-loadable status.WriteFault saved only refused loadable = absurd (cc)
-file-loadable status.NoSwap saved only refused loadable = absurd (cc)
-file-loadable status.Version saved only refused loadable = absurd (cc)
-file-loadable (status.FileChanged kept found) saved only refused loadable = absurd (cc)
-file-loadable (status.Damaged at done) saved only refused loadable = absurd (cc)
+file-loadable _ saved only refused loadable = absurd (cc)
 
 pub ends-at-file : (before : Outside) (left : Option (List ℕ)) (faults : ℕ) (mid disk : Outer) (disk_stays sink_stays : Type 0) (given : Status)
     → sink_stays → WasRead before (record before { left = left; script_faults = faults; disk = disk })

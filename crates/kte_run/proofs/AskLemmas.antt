@@ -35,7 +35,7 @@ use Rattle.kte_run.specs.Schedule.{AllFit, Due, IsServed, append_of, asked_for, 
 use Rattle.kte_run.specs.Editor.{Part, IsOwn, IsAt, IsOwed, Follows, asked, asked_after, asked_left, asked_next, first_of, is_lost, left, next_after, next_of, own, telling}
 use Rattle.kte_run.specs.Alone.{NoneTaken, Asks, EachDue, due_left}
 use Rattle.kte_run.proofs.DueLemmas.{AllFit-last, EachDue-last, due_left-last, lost_after-last}
-use Rattle.kte_run.proofs.EditorLemmas.{came-close}
+use Rattle.kte_run.proofs.EditorLemmas.{came-close, came-outcome}
 use Rattle.kte_run.proofs.HistoryLemmas.{asked_in-append}
 
 -- ---- one request of the editor
@@ -71,11 +71,6 @@ own-served state Take answer is = absurd is
 own-served state (Deliver job findings) answer is = absurd is
 own-served state (GiveBack job) answer is = absurd is
 own-served state (Outcome call ok) answer is = tt
-
--- what comes of an outcome where memory did not run out
-pub came-outcome : (state : State) (call : OutsideCall) (ok : Bool) (answer : Reply) → cut_at answer ≡ None
-    → came_of state (own (Outcome call ok) answer) ≡ replied state reply.Noted
-came-outcome state call ok answer whole = ap (λ (at : Option ℕ). react_by state 0 (Outcome call ok) at) whole
 
 -- after an outcome nothing is called for, nor after the close of a session that is open
 due-outcome : (state : State) (call : OutsideCall) (ok : Bool) (answer : Reply) → cut_at answer ≡ None

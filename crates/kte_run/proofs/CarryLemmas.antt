@@ -248,7 +248,7 @@ begun commands before between after asks drains =
     let at_end = ended commands before between after asks drains in
     at_end ∙ ap (λ (events : List Event). record before { events = events }) (sym (ap (λ (session : Session). session.events) at_end))
 
--- what is told of the whole run is told of what was asked for
+-- the outcomes of the whole run are those of its requests
 pub same : (commands : List Command) (before between after : Session) → before.events ≡ [] → Asks commands before between → Drains between after
     → Same (beginning before.loaded before.limit) between.events after.events
 same commands before between after fresh asks drains =

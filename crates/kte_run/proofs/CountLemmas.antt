@@ -142,82 +142,76 @@ charged-stay before after all =
       reads = reads_all before after all;
     }
 
+-- a call that failed raised its own count, and the others stay
+least_of : (call one : DiskCall) (before after : DiskCall → ℕ) → Failed call before after → before one ≤ after one
+least_of disk.Append disk.Append before after failed = rose_least (before disk.Append) (after disk.Append) failed.rose
+least_of disk.Sync disk.Sync before after failed = rose_least (before disk.Sync) (after disk.Sync) failed.rose
+least_of disk.Replace disk.Replace before after failed = rose_least (before disk.Replace) (after disk.Replace) failed.rose
+least_of disk.Reset disk.Reset before after failed = rose_least (before disk.Reset) (after disk.Reset) failed.rose
+least_of disk.SavedLen disk.SavedLen before after failed = rose_least (before disk.SavedLen) (after disk.SavedLen) failed.rose
+least_of disk.SavedAt disk.SavedAt before after failed = rose_least (before disk.SavedAt) (after disk.SavedAt) failed.rose
+least_of disk.SwapLen disk.SwapLen before after failed = rose_least (before disk.SwapLen) (after disk.SwapLen) failed.rose
+least_of disk.SwapAt disk.SwapAt before after failed = rose_least (before disk.SwapAt) (after disk.SwapAt) failed.rose
+least_of call one before after failed = omega (arith, failed.others one (λ same. cc))
+
+rises-failed : (call : DiskCall) (before after : DiskCall → ℕ) → Failed call before after → Rises before after
+rises-failed call before after failed = record {
+  append = least_of call disk.Append before after failed;
+  sync = least_of call disk.Sync before after failed;
+  replace = least_of call disk.Replace before after failed;
+  reset = least_of call disk.Reset before after failed;
+}
+
 charged-append : (before after : DiskCall → ℕ) → Failed disk.Append before after → Charged 1 0 before after
 charged-append before after failed =
     let sync = failed.others disk.Sync (λ same. cc) in
     let replace = failed.others disk.Replace (λ same. cc) in
     let reset = failed.others disk.Reset (λ same. cc) in
-    let least = rose_least (before disk.Append) (after disk.Append) failed.rose in
     record {
       append = rose_one (before disk.Append) (after disk.Append) failed.rose;
       other = inl (omega arith);
       append_told = λ more. omega arith;
       other_told = λ more. absurd (omega arith);
-      rises = record { append = least; sync = omega arith; replace = omega arith; reset = omega arith };
+      rises = rises-failed disk.Append before after failed;
       reads = reads_stay disk.Append before after failed.others (λ same. cc) (λ same. cc) (λ same. cc) (λ same. cc);
     }
 
-charged-sync : (before after : DiskCall → ℕ) → Failed disk.Sync before after → Charged 0 1 before after
-charged-sync before after failed =
-    let append = failed.others disk.Append (λ same. cc) in
-    let replace = failed.others disk.Replace (λ same. cc) in
-    let reset = failed.others disk.Reset (λ same. cc) in
-    let least = rose_least (before disk.Sync) (after disk.Sync) failed.rose in
-    record {
-      append = inl (omega arith);
-      other = by (rose_one (before disk.Sync) (after disk.Sync) failed.rose) replace reset;
-      append_told = λ more. absurd (omega arith);
-      other_told = λ more. omega arith;
-      rises = record { append = omega arith; sync = least; replace = omega arith; reset = omega arith };
-      reads = reads_stay disk.Sync before after failed.others (λ same. cc) (λ same. cc) (λ same. cc) (λ same. cc);
-    } where
-      by : RoseBy 1 (before disk.Sync) (after disk.Sync) → after disk.Replace ≡ before disk.Replace → after disk.Reset ≡ before disk.Reset
-          → (calls_of before + 1 ≤ calls_of after) ⊎ AtLast after
-      by (inl more) replace reset = inl (omega arith)
-      by (inr at) replace reset = inr (inl at)
+-- a sync, a replacement or a reset
+abbrev IsOther : DiskCall → Type 0
+IsOther disk.Sync = Unit {0}
+IsOther disk.Replace = Unit {0}
+IsOther disk.Reset = Unit {0}
+IsOther _ = ⊥
 
-charged-replace : (before after : DiskCall → ℕ) → Failed disk.Replace before after → Charged 0 1 before after
-charged-replace before after failed =
-    let append = failed.others disk.Append (λ same. cc) in
-    let sync = failed.others disk.Sync (λ same. cc) in
-    let reset = failed.others disk.Reset (λ same. cc) in
-    let least = rose_least (before disk.Replace) (after disk.Replace) failed.rose in
-    record {
-      append = inl (omega arith);
-      other = by (rose_one (before disk.Replace) (after disk.Replace) failed.rose) sync reset;
-      append_told = λ more. absurd (omega arith);
-      other_told = λ more. omega arith;
-      rises = record { append = omega arith; sync = omega arith; replace = least; reset = omega arith };
-      reads = reads_stay disk.Replace before after failed.others (λ same. cc) (λ same. cc) (λ same. cc) (λ same. cc);
-    } where
-      by : RoseBy 1 (before disk.Replace) (after disk.Replace) → after disk.Sync ≡ before disk.Sync → after disk.Reset ≡ before disk.Reset
-          → (calls_of before + 1 ≤ calls_of after) ⊎ AtLast after
-      by (inl more) sync reset = inl (omega arith)
-      by (inr at) sync reset = inr (inr (inl at))
+-- .. after which the sum of their counts is greater, or one has reached its last value
+other-rose : (call : DiskCall) (before after : DiskCall → ℕ) → IsOther call → OthersStay call before after → RoseBy 1 (before call) (after call)
+    → (calls_of before + 1 ≤ calls_of after) ⊎ AtLast after
+other-rose disk.Sync before after is others (inl more) = inl (omega (arith, others disk.Replace (λ same. cc), others disk.Reset (λ same. cc)))
+other-rose disk.Replace before after is others (inl more) = inl (omega (arith, others disk.Sync (λ same. cc), others disk.Reset (λ same. cc)))
+other-rose disk.Reset before after is others (inl more) = inl (omega (arith, others disk.Sync (λ same. cc), others disk.Replace (λ same. cc)))
+other-rose disk.Sync before after is others (inr last) = inr (inl last)
+other-rose disk.Replace before after is others (inr last) = inr (inr (inl last))
+other-rose disk.Reset before after is others (inr last) = inr (inr (inr last))
+other-rose _ before after is others rose = absurd is
 
-charged-reset : (before after : DiskCall → ℕ) → Failed disk.Reset before after → Charged 0 1 before after
-charged-reset before after failed =
-    let append = failed.others disk.Append (λ same. cc) in
-    let sync = failed.others disk.Sync (λ same. cc) in
-    let replace = failed.others disk.Replace (λ same. cc) in
-    let least = rose_least (before disk.Reset) (after disk.Reset) failed.rose in
+charged-other : (call : DiskCall) (before after : DiskCall → ℕ) → IsOther call → Failed call before after → Charged 0 1 before after
+charged-other call before after is failed =
+    let apart = λ (one : DiskCall) (none : IsOther one → ⊥) (same : one ≡ call). none (subst IsOther (sym same) is) in
+    let append = failed.others disk.Append (apart disk.Append (λ none. none)) in
     record {
       append = inl (omega arith);
-      other = by (rose_one (before disk.Reset) (after disk.Reset) failed.rose) sync replace;
+      other = other-rose call before after is failed.others (rose_one (before call) (after call) failed.rose);
       append_told = λ more. absurd (omega arith);
       other_told = λ more. omega arith;
-      rises = record { append = omega arith; sync = omega arith; replace = omega arith; reset = least };
-      reads = reads_stay disk.Reset before after failed.others (λ same. cc) (λ same. cc) (λ same. cc) (λ same. cc);
-    } where
-      by : RoseBy 1 (before disk.Reset) (after disk.Reset) → after disk.Sync ≡ before disk.Sync → after disk.Replace ≡ before disk.Replace
-          → (calls_of before + 1 ≤ calls_of after) ⊎ AtLast after
-      by (inl more) sync replace = inl (omega arith)
-      by (inr at) sync replace = inr (inr (inr at))
+      rises = rises-failed call before after failed;
+      reads = reads_stay call before after failed.others (apart disk.SavedLen (λ none. none)) (apart disk.SavedAt (λ none. none))
+          (apart disk.SwapLen (λ none. none)) (apart disk.SwapAt (λ none. none));
+    }
 
 charged-save : (remembered now : Bool) (before after : DiskCall → ℕ) → SaveFailed remembered now before after → Charged 0 1 before after
-charged-save remembered now before after (inl failed) = charged-replace before after failed.1
-charged-save remembered now before after (inr (is, inl failed)) = charged-sync before after failed
-charged-save remembered now before after (inr (is, inr failed)) = charged-reset before after failed
+charged-save remembered now before after (inl failed) = charged-other disk.Replace before after tt failed.1
+charged-save remembered now before after (inr (is, inl failed)) = charged-other disk.Sync before after tt failed
+charged-save remembered now before after (inr (is, inr failed)) = charged-other disk.Reset before after tt failed
 
 charged-call : (call : OutsideCall) (ok lost remembered now : Bool) (before after : DiskCall → ℕ)
     → CountsCall call ok lost remembered now before after
@@ -227,7 +221,7 @@ charged-call Call.Sync true lost remembered now before after counts = charged-st
 charged-call Call.Save true lost remembered now before after counts = charged-stay before after counts.1
 charged-call Call.Append false lost remembered now before after counts = charged-append before after counts.1
 charged-call Call.Sync false true remembered now before after counts = charged-stay before after counts.1
-charged-call Call.Sync false false remembered now before after counts = charged-sync before after counts.1
+charged-call Call.Sync false false remembered now before after counts = charged-other disk.Sync before after tt counts.1
 charged-call Call.Save false lost remembered now before after counts = charged-save remembered now before after counts
 
 charged : (owed : Option Told) (lost remembered now : Bool) (before after : DiskCall → ℕ)

@@ -1,27 +1,28 @@
 -- What the replies of the core make of the editor's part.
-use Rattle.std.proofs.Common.{◌≡◌, ℕ, zero, suc, ◌<◌, ◌==◌, Bool, true, false, List, [], Option, None, Some, if◌then◌else◌, refl, ap, sym, ◌∙◌, inl, inr, arith}
+use Rattle.std.proofs.Common.{◌≡◌, ℕ, zero, suc, ◌<◌, ◌==◌, Bool, true, false, List, [], ◌∷◌, Option, None, Some, if◌then◌else◌, refl, ap, sym, ◌∙◌, inl, inr, arith}
 use Rattle.std.specs.FinMap.{get}
 use Rattle.std.proofs.lemmas.Bool.{cases_Bool, eqb-true}
 use Rattle.kte_text.specs.declared.primitive.Primitive.{Primitive}
 use Rattle.kte_place.specs.Ends.{Ends}
-use Rattle.kte_place.specs.declared.span.Expand.{Expand}
-use Rattle.kte_place.specs.declared.span.Empty.{Empty}
 use Rattle.kte_history.specs.declared.lock.Owner.TheVariants as owner
 use Rattle.kte_history.specs.Locks.{has_lock}
 use Rattle.kte_undo.specs.Steps.{steps_along}
 use Rattle.kte_edit.specs.Steps.{steps_of}
 use Rattle.kte_command.specs.declared.command.Command.{Command}
-use Rattle.kte_command.specs.declared.command.Command.TheVariants.{Edit, Begin, End, Undo, Redo, MakeRange, SetRange, DropRange, ShowRange, Lock, Unlock, Land, Check, Sync, Save}
-use Rattle.kte_core.specs.Editing.{EditReaction, text_of, judged, still_open, changed, undone, redone, undo_steps, redo_steps, change_refusal, group_refusal}
-use Rattle.kte_core.specs.State.{State, Range, Reaction, refused, edited}
-use Rattle.kte_core.specs.React.{react_by, react_command, cut_at, set_range, drop_range, show_range, unlock, land, can_land_from, ask_outside, close}
+use Rattle.kte_command.specs.declared.command.Command.TheVariants.{Edit, Begin, End, Undo, Redo, MakeRange, SetRange, DropRange, ShowRange, Lock, Unlock, Land, Fold, Unfold, Find, FindBack, All, Check, Sync, Save}
+use Rattle.kte_core.specs.Editing.{Editing, EditReaction, text_of, judged, still_open, changed, undone, redone, undo_steps, redo_steps, change_refusal, group_refusal}
+use Rattle.kte_core.specs.State.{State, Range, Reaction, replied, refused, edited}
+use Rattle.kte_core.specs.Folds.{only_fold, no_fold, fold_refusal}
+use Rattle.kte_core.specs.Kept.{kept_after}
+use Rattle.kte_core.specs.React.{react_by, react_command, cut_at, set_range, drop_range, show_range, unlock, land, can_land_from, fold, drop_fold, told_found, ask_outside, close}
 use Rattle.kte_core.specs.Replay.{IsAnswered, came_of, after_event}
 use Rattle.kte_core.specs.declared.reply.Reply.{Reply}
 use Rattle.kte_core.specs.declared.reply.Reply.TheVariants as reply
 use Rattle.kte_core.specs.declared.reply.Refusal.{Refusal}
 use Rattle.kte_core.specs.declared.reply.Refusal.TheVariants.{Closed}
-use Rattle.kte_core.specs.declared.request.Request.TheVariants.{Cmd, Close}
-use Rattle.kte_core.proofs.TransactionLemmas.{depth-ended, depth-noted}
+use Rattle.kte_core.specs.declared.request.OutsideCall.{OutsideCall}
+use Rattle.kte_core.specs.declared.request.Request.TheVariants.{Cmd, Close, Outcome}
+use Rattle.kte_core.proofs.TransactionLemmas.{IsPlain, still, depth-ended, depth-noted}
 use Rattle.kte_run.specs.Schedule.{depth_by, asked_from}
 use Rattle.kte_run.specs.Editor.{Part, left, first_of, next_of, depth_told, own}
 
@@ -57,42 +58,57 @@ tells-end state =
       | inr f ↦ rw f (record { depth = depth-ended state.editing.edits; told = depth-ended state.editing.edits; closed = refl; untaken = refl })
     ]
 
--- a command that keeps what is edited, and whose reply does not tell the depth
-record IsApart (state : State) (came : Reaction) : Type 0 where
-  depth : came.after.editing.edits.depth ≡ state.editing.edits.depth
-  told : depth_told came.reply state.editing.edits.depth ≡ state.editing.edits.depth
-  closed : came.after.closed ≡ state.closed
-  untaken : is_took came.reply ≡ false
+-- a command that neither edits nor posts a job: its reply does not tell the depth
+abbrev IsUntold : Reaction → Type 0
+IsUntold came = (depth : ℕ) → depth_told came.reply depth ≡ depth
 
-tells-apart : (state : State) (command : Command) (came : Reaction)
-    → depth_by state.editing.edits.depth command ≡ state.editing.edits.depth → IsApart state came → Tells state command came
-tells-apart state command came keeps apart =
-    record { depth = apart.depth ∙ sym keeps; told = apart.told ∙ sym keeps; closed = apart.closed; untaken = apart.untaken }
+untold-found : (state : State) (found : List Ends) → IsUntold (replied state (told_found found))
+untold-found state [] = λ depth. refl
+untold-found state (first ∷ others) = λ depth. refl
 
-apart-set : (state : State) (id : ℕ) (span : Ends) (found : Option Range) → IsApart state (set_range state id span found)
-apart-set state id span None = record { depth = refl; told = refl; closed = refl; untaken = refl }
-apart-set state id span (Some range) = record { depth = refl; told = refl; closed = refl; untaken = refl }
+untold-outside : (state : State) (cause : Option Refusal) → IsUntold (ask_outside state cause)
+untold-outside state None = λ depth. refl
+untold-outside state (Some refusal) = λ depth. refl
 
-apart-drop : (state : State) (id : ℕ) (found : Option Range) → IsApart state (drop_range state id found)
-apart-drop state id None = record { depth = refl; told = refl; closed = refl; untaken = refl }
-apart-drop state id (Some range) = record { depth = refl; told = refl; closed = refl; untaken = refl }
+untold : (state : State) (command : Command) → IsPlain command → IsUntold (react_command state command)
+untold state (MakeRange span expand empty) plain = λ depth. refl
+untold state (SetRange id span) plain =
+    elim (no_fold (get state.ranges id)) as (λ found. IsUntold (set_range state id span found)) [ None ↦ λ depth. refl | Some range ↦ λ depth. refl ]
+untold state (DropRange id) plain =
+    elim (no_fold (get state.ranges id)) as (λ found. IsUntold (drop_range state id found)) [ None ↦ λ depth. refl | Some range ↦ λ depth. refl ]
+untold state (ShowRange id) plain =
+    elim (no_fold (get state.ranges id)) as (λ found. IsUntold (show_range state id found)) [ None ↦ λ depth. refl | Some range ↦ λ depth. refl ]
+untold state Lock plain = λ depth. refl
+untold state (Unlock revision) plain =
+    elim (has_lock state.locks owner.Editor revision) as (λ owned. IsUntold (unlock state revision owned)) [ true ↦ λ depth. refl | false ↦ λ depth. refl ]
+untold state (Land revision span expand empty) plain =
+    elim (can_land_from state revision) as (λ may. IsUntold (land state revision span expand empty may)) [ true ↦ λ depth. refl | false ↦ λ depth. refl ]
+untold state (Fold span) plain =
+    elim (fold_refusal state span) as (λ cause. IsUntold (fold state span cause)) [ None ↦ λ depth. refl | Some cause ↦ λ depth. refl ]
+untold state (Unfold id) plain =
+    elim (only_fold (get state.ranges id)) as (λ found. IsUntold (drop_fold state id found)) [ None ↦ λ depth. refl | Some range ↦ λ depth. refl ]
+untold state (Find from query) plain = untold-found state _
+untold state (FindBack before query) plain = untold-found state _
+untold state (All query) plain = untold-found state _
+untold state Sync plain = untold-outside state (still_open state.editing.edits.depth)
+untold state Save plain = untold-outside state (still_open state.editing.edits.depth)
+untold state _ plain = absurd plain
 
-apart-show : (state : State) (id : ℕ) (found : Option Range) → IsApart state (show_range state id found)
-apart-show state id None = record { depth = refl; told = refl; closed = refl; untaken = refl }
-apart-show state id (Some range) = record { depth = refl; told = refl; closed = refl; untaken = refl }
+-- .. and takes no job, since no room is kept after it
+untaken : (answer : Reply) → kept_after 1 answer ≡ 1 → is_took answer ≡ false
+untaken (reply.Took job revision) kept = absurd (omega arith)
+untaken _ kept = refl
 
-apart-unlock : (state : State) (revision : ℕ) (owned : Bool) → IsApart state (unlock state revision owned)
-apart-unlock state revision true = record { depth = refl; told = refl; closed = refl; untaken = refl }
-apart-unlock state revision false = record { depth = refl; told = refl; closed = refl; untaken = refl }
-
-apart-land : (state : State) (revision : ℕ) (span : Ends) (expand : Expand) (empty : Empty) (may : Bool)
-    → IsApart state (land state revision span expand empty may)
-apart-land state revision span expand empty true = record { depth = refl; told = refl; closed = refl; untaken = refl }
-apart-land state revision span expand empty false = record { depth = refl; told = refl; closed = refl; untaken = refl }
-
-apart-outside : (state : State) (cause : Option Refusal) → IsApart state (ask_outside state cause)
-apart-outside state None = record { depth = refl; told = refl; closed = refl; untaken = refl }
-apart-outside state (Some refusal) = record { depth = refl; told = refl; closed = refl; untaken = refl }
+tells-plain : (state : State) (command : Command) → depth_by state.editing.edits.depth command ≡ state.editing.edits.depth → IsPlain command
+    → Tells state command (react_command state command)
+tells-plain state command keeps plain =
+    let stays = still state command plain in
+    record {
+      depth = ap (λ (editing : Editing). editing.edits.depth) stays.editing ∙ sym keeps;
+      told = untold state command plain state.editing.edits.depth ∙ sym keeps;
+      closed = stays.closed;
+      untaken = untaken (react_command state command).reply (stays.kept 1);
+    }
 
 pub tells : (state : State) (command : Command) → Tells state command (react_command state command)
 tells state (Edit change) =
@@ -107,19 +123,10 @@ tells state Undo =
 tells state Redo =
     tells-judged (group_refusal state.editing state.editing.edits.redo (redo_steps state.editing)) state Redo
     (redone reply.Edited state.editing (redo_steps state.editing)) refl refl refl refl
-tells state (MakeRange span expand empty) = record { depth = refl; told = refl; closed = refl; untaken = refl }
-tells state (SetRange id span) = tells-apart state (SetRange id span) _ refl (apart-set state id span (get state.ranges id))
-tells state (DropRange id) = tells-apart state (DropRange id) _ refl (apart-drop state id (get state.ranges id))
-tells state (ShowRange id) = tells-apart state (ShowRange id) _ refl (apart-show state id (get state.ranges id))
-tells state Lock = record { depth = refl; told = refl; closed = refl; untaken = refl }
-tells state (Unlock revision) = tells-apart state (Unlock revision) _ refl (apart-unlock state revision (has_lock state.locks owner.Editor revision))
-tells state (Land revision span expand empty) =
-    tells-apart state (Land revision span expand empty) _ refl (apart-land state revision span expand empty (can_land_from state revision))
 tells state (Check rule) = record { depth = refl; told = refl; closed = refl; untaken = refl }
-tells state Sync = tells-apart state Sync _ refl (apart-outside state (still_open state.editing.edits.depth))
-tells state Save = tells-apart state Save _ refl (apart-outside state (still_open state.editing.edits.depth))
+tells state command = tells-plain state command refl tt
 
--- in a session that is open, what comes of a command or of the close that was not cut
+-- what comes of a command or of the close in a session that is open, and of an outcome, that was not cut
 pub came-command : (state : State) (command : Command) (answer : Reply) → state.closed ≡ false → cut_at answer ≡ None
     → came_of state (own (Cmd command) answer) ≡ react_command state command
 came-command state command answer still_open whole =
@@ -130,6 +137,10 @@ pub came-close : (state : State) (answer : Reply) → state.closed ≡ false →
 came-close state answer still_open whole =
     ap (λ (at : Option ℕ). react_by state 0 Close at) whole
     ∙ ap (λ (b : Bool). if b then refused state Closed else close state) still_open
+
+pub came-outcome : (state : State) (call : OutsideCall) (ok : Bool) (answer : Reply) → cut_at answer ≡ None
+    → came_of state (own (Outcome call ok) answer) ≡ replied state reply.Noted
+came-outcome state call ok answer whole = ap (λ (at : Option ℕ). react_by state 0 (Outcome call ok) at) whole
 
 -- a command, after which the depth is the one that its reply tells
 pub record Knows (state : State) (command : Command) (answer : Reply) : Type 0 where
@@ -150,22 +161,8 @@ knows state command answer still_open whole answered =
 
 -- a reply that is no Cut was not cut
 pub uncut : (answer : Reply) → ((steps revision depth : ℕ) → answer ≡ reply.Cut steps revision depth → ⊥) → cut_at answer ≡ None
-uncut (reply.Edited steps revision depth) never = refl
 uncut (reply.Cut steps revision depth) never = absurd (never steps revision depth refl)
-uncut (reply.Depth depth) never = refl
-uncut (reply.Range id span) never = refl
-uncut (reply.Dropped id) never = refl
-uncut (reply.Locked revision) never = refl
-uncut (reply.Unlocked revision) never = refl
-uncut (reply.Landed span) never = refl
-uncut (reply.Posted job) never = refl
-uncut reply.Asked never = refl
-uncut (reply.Took job revision) never = refl
-uncut (reply.Delivered job first count) never = refl
-uncut (reply.Returned job) never = refl
-uncut reply.Noted never = refl
-uncut reply.Closed never = refl
-uncut (reply.Refused refusal) never = refl
+uncut _ never = refl
 
 -- an end comes next while a transaction is open and no command is left
 first-end : (part : Part) → part.closed ≡ false → part.failed ≡ false → part.commands ≡ [] → 0 < part.depth

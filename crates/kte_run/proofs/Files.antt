@@ -1,15 +1,19 @@
 -- The saved file, read and loaded.
-use Rattle.std.proofs.Common.{◌≡◌, ◌≢◌, ◌↔◌, ◌<◌, ◌≤◌, IsSomeAnd, IsErrAnd, IfErr, arith, ℕ, List, [], ◌∷◌, ◌++◌, refl, length, take, drop, Option, Some, None, Result, Ok, Err, IfSome, sym, subst, ap, ◌∙◌}
+use Rattle.std.proofs.Common.{◌≡◌, ◌≢◌, ◌↔◌, ◌<◌, ◌≤◌, IsSomeAnd, IsErrAnd, IfErr, arith, ℕ, List, [], ◌∷◌, ◌+◌, ◌++◌, refl, length, take, Option, Some, None, Result, Ok, Err, IfSome, sym, subst, ap, ◌∙◌}
+use Rattle.std.specs.Option.{option_map}
 use Rattle.std.proofs.Math.Seq.{take-length}
 use Rattle.kte_causes.specs.Moments.{Moment, AddsMoments, Staying, latest, swap_now}
-use Rattle.kte_causes.proofs.CallerLemmas.{swap_now-stays}
+use Rattle.kte_causes.proofs.CallerLemmas.{saved_now-stays, swap_now-stays}
 use Rattle.kte_text.specs.Files.{Refuses}
 use Rattle.kte_text.specs.declared.loading.Loaded.{Loaded}
 use Rattle.kte_text.specs.declared.loading.LoadFault.{LoadFault}
 use Rattle.kte_text.specs.declared.loading.LoadFault.TheVariants as load
 use Rattle.kte_text.specs.declared.TheConstants.{MAX_FILE_LENGTH}
+use Rattle.kte_run.specs.declared.saved.DiskFile.{DiskFile}
+use Rattle.kte_run.specs.declared.saved.DiskFile.TheVariants.{Saved, Swap}
 use Rattle.kte_run.specs.declared.status.Status.{Status}
 use Rattle.kte_run.specs.declared.status.Status.TheVariants as status
+use Rattle.kte_run.specs.Files.{file_now}
 use Rattle.kte_run.specs.Run.{IsLoadable}
 use Rattle.kte_run.specs.Statuses.{file_status}
 
@@ -20,6 +24,10 @@ front_all (x ∷ xs) ys = ap (λ (rest : List ℕ). x ∷ rest) (front_all xs ys
 both : (P Q R : List ℕ → Type 0) → ((file : List ℕ) → P file → Q file → R file) → (o : Option (List ℕ)) → IfSome o P → IfSome o Q → IfSome o R
 both P Q R f None p q = tt
 both P Q R f (Some file) p q = f file p q
+
+pub if_then : (P Q : List ℕ → Type 0) → ((file : List ℕ) → P file → Q file) → (o : Option (List ℕ)) → IfSome o P → IfSome o Q
+if_then P Q f None p = tt
+if_then P Q f (Some file) p = f file p
 
 -- so many elements as a list has, of it and of others after it
 pub front : (n : ℕ) (xs ys : List ℕ) → n ≡ length xs → take n (xs ++ ys) ≡ xs
@@ -33,18 +41,24 @@ pub later : (P : List ℕ → Type 0) (before after : Option (List ℕ)) → Tel
 later P None after on h = tt
 later P (Some file) after on h = subst (λ (o : Option (List ℕ)). IfSome o P) on h
 
--- the bytes that were read are the file
-pub read : (saved mid new : Option (List ℕ)) (n : ℕ) (room filled bytes : List ℕ) → TellsOn saved mid → TellsOn mid new → IfSome mid (λ file. n ≡ length file) → length room ≡ n → IfSome new (λ file. filled ≡ take (length room) (drop 0 file)) → bytes ≡ filled → IfSome saved (λ file. bytes ≡ file)
-read saved mid new n room filled bytes on on' long fits gives is =
-    later (λ file. bytes ≡ file) saved mid on (
-    both (λ file. n ≡ length file) (λ file. filled ≡ take (length room) (drop 0 file)) (λ file. bytes ≡ file)
-    (λ file long gives. is ∙ gives ∙ ap (λ (k : ℕ). take k file) (fits ∙ long) ∙ take-length file)
-    mid long (later (λ file. filled ≡ take (length room) (drop 0 file)) mid new on' gives)
-    )
+-- a length or a read leaves the bytes of each file
+pub file_now-stays : (file : DiskFile) (old new : Option (List Moment)) → AddsMoments Staying old new → TellsOn (file_now file old) (file_now file new)
+file_now-stays Saved old new stays = saved_now-stays old new stays
+file_now-stays Swap old new stays = swap_now-stays old new stays
 
--- the length of the file
-pub measured : (saved mid : Option (List ℕ)) (n : ℕ) → TellsOn saved mid → IfSome mid (λ file. n ≡ length file) → IfSome saved (λ file. n ≡ length file)
-measured saved mid n on long = later (λ file. n ≡ length file) saved mid on long
+-- there are so many bytes from the first on
+pub room : (file : List Moment → List ℕ) (n : ℕ) (moments : Option (List Moment)) → IfSome (option_map file moments) (λ bytes. n ≤ length bytes)
+    → IfSome moments (λ told. 0 + n ≤ length (file told))
+room file n None fits = tt
+room file n (Some told) fits = omega arith
+
+-- the bytes that were read are the file
+pub read : (now new : Option (List ℕ)) (n : ℕ) (room filled bytes : List ℕ) → TellsOn now new → IfSome now (λ file. n ≡ length file) → length room ≡ n
+    → IfSome new (λ file. filled ≡ take (length room) file) → bytes ≡ filled → IfSome now (λ file. bytes ≡ file)
+read now new n room filled bytes on long fits gives is =
+    both (λ file. n ≡ length file) (λ file. filled ≡ take (length room) file) (λ file. bytes ≡ file)
+    (λ file long gives. is ∙ gives ∙ ap (λ (k : ℕ). take k file) (fits ∙ long) ∙ take-length file)
+    now long (later (λ file. filled ≡ take (length room) file) now new on gives)
 
 -- a file that was loaded is not refused
 pub loadable : (file : List ℕ) (loaded : Loaded) (result : Result Loaded LoadFault) → result ≡ Ok loaded → ((fault : LoadFault) → fault ≢ load.NoMemory → (result ≡ Err fault) ↔ Refuses file fault) → IsLoadable file
@@ -68,19 +82,7 @@ fault_in : Status → LoadFault
 fault_in (status.NotUtf8 at) = load.NotUtf8 at
 fault_in (status.TooLarge None) = load.LongFile
 fault_in (status.TooLarge (Some size)) = load.TooLarge size
-fault_in status.Ok = load.NoMemory
-fault_in status.NoMemory = load.NoMemory
-fault_in (status.BadWords at) = load.NoMemory
-fault_in status.ReadFault = load.NoMemory
-fault_in (status.BadScript fault) = load.NoMemory
-fault_in status.DiskFault = load.NoMemory
-fault_in (status.SwapPresent bytes) = load.NoMemory
-fault_in status.SwapLost = load.NoMemory
-fault_in status.WriteFault = load.NoMemory
-fault_in status.NoSwap = load.NoMemory
-fault_in status.Version = load.NoMemory
-fault_in (status.FileChanged kept found) = load.NoMemory
-fault_in (status.Damaged at done) = load.NoMemory
+fault_in _ = load.NoMemory
 
 fault_in-file_status : (fault : LoadFault) → fault_in (file_status fault) ≡ fault
 unfolding fault_in
@@ -136,11 +138,6 @@ pub some_same : (a b : List ℕ) → ◌≡◌ {A = Option (List ℕ)} (Some a) 
 some_same a b same = cc
 
 -- the length of the swap file
-pub swap_measured : (n : ℕ) (before after : Option (List Moment)) → AddsMoments Staying before after → IfSome after (λ ms. n ≡ length (latest ms).swap) → IfSome (swap_now before) (λ swap. n ≡ length swap)
-swap_measured n None after stays long = tt
-swap_measured n (Some b) None stays long = absurd stays
-swap_measured n (Some b) (Some c) stays long = long ∙ ap (λ (swap : List ℕ). length swap) (some_same (latest c).swap (latest b).swap (swap_now-stays (Some b) (Some c) stays))
-
 pub swap_length : (o : Option (List ℕ)) (n : ℕ) (swap : List ℕ) → IfSome o (λ s. n ≡ length s) → o ≡ Some swap → n ≡ length swap
 swap_length o n swap long is = if_is o (λ s. n ≡ length s) swap long is
 

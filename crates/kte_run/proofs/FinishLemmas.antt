@@ -185,7 +185,7 @@ saves-due request finished (reply.Took job revision) is = absurd (cc)
 saves-due request finished reply.Asked is = record { request_is = saves-request request finished is; answer_is = refl }
 saves-due request finished _ is = absurd (never-append finished is)
 
--- a session answers so where no transaction is open
+-- a call outside is asked for only where no transaction is open
 asked-shut : (state : State) (closed : Bool)
     → (if closed then refused state Closed else ask_outside state (still_open state.editing.edits.depth)).reply ≡ reply.Asked
     → (if closed then refused state Closed else ask_outside state (still_open state.editing.edits.depth)).after.editing.edits.depth ≡ 0

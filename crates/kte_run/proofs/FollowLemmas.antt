@@ -22,7 +22,7 @@ use Rattle.kte_run.specs.declared.editor.Told.{Told}
 use Rattle.kte_run.specs.Schedule.{Due, nothing, append, outcome, delivery, IsDue, IsFree, append_of, asked_from, depth_by, due_of, lost_by}
 use Rattle.kte_run.specs.Editor.{Part, IsAt, IsOwed, IsTold, Follows, asked, call_after, call_of, current_after, current_before, depth_told, finished_after, finished_by, is_lost, left, lost_with, next_of, own, telling}
 use Rattle.kte_run.specs.Calls.{Leaves}
-use Rattle.kte_run.proofs.EditorLemmas.{is_took, knows, tells, came-command, came-close}
+use Rattle.kte_run.proofs.EditorLemmas.{is_took, knows, tells, came-command, came-close, came-outcome}
 use Rattle.kte_run.proofs.GroupMoves.{Moves, IsShut, opened, moves, moves-quiet, moves-close}
 
 -- ---- which call follows
@@ -39,7 +39,7 @@ call-cases _ asking = inl refl
 
 -- ---- what is due
 
--- what is told of an append is what its transaction calls for
+-- the outcome after an append is the one that its transaction calls for
 owed-made : (ps : List Primitive) (lost : Bool) (owed : Option Told) → IsTold Call.Append lost ps owed
     → IsOwed (append_of (if_made ps)) lost owed
 owed-made [] lost None told = refl
@@ -55,7 +55,7 @@ owed-append depth ps lost owed told =
       | inr f ↦ let now : IsTold Call.Append lost [] owed = rw f at told in rw f (owed-made [] lost owed now)
     ]
 
--- what is told of a call that was asked for is its outcome
+-- a call that was asked for is followed by its outcome
 owed-outcome : (call : OutsideCall) (lost : Bool) (ps : List Primitive) (owed : Option Told) → call ≢ Call.Append
     → IsTold call lost ps owed → IsOwed (outcome call) lost owed
 owed-outcome Call.Append lost ps owed other told = absurd (other refl)
@@ -273,10 +273,6 @@ midst-close state lost answer made was by knowing still_open shut_part asks =
       due_append = λ is. ap (due_of Close finished) is_closed;
       due_outcome = λ call is asking. absurd (cc);
     }
-
-came-outcome : (state : State) (call : OutsideCall) (ok : Bool) (answer : Reply) → cut_at answer ≡ None
-    → came_of state (own (Outcome call ok) answer) ≡ replied state reply.Noted
-came-outcome state call ok answer whole = ap (λ (at : Option ℕ). react_by state 0 (Outcome call ok) at) whole
 
 midst-outcome : (state : State) (lost : Bool) (call : OutsideCall) (ok : Bool) (answer : Reply) (made : List Primitive) (was : Part)
     → Came state (Outcome call ok) answer made → Knowing state lost was → state.closed ≡ was.closed → was.asking ≡ None

@@ -1,26 +1,23 @@
 -- What a reaction makes of the open transaction: it is finished with the primitives made, or goes on
 -- with them.
 use Rattle.std.proofs.Common.{◌≡◌, ℕ, ◌+◌, ◌-◌, ◌<◌, ◌==◌, true, false, List, [], ◌∷◌, ◌++◌, Option, None, Some, if◌then◌else◌, refl, ap, sym, ◌∙◌, inl, inr, arith, append-nil}
-use Rattle.std.specs.FinMap.{get}
 use Rattle.std.proofs.lemmas.Bool.{cases_Bool, eq-eqb, eqb-true, eqb-false, ne_eqb}
 use Rattle.std.proofs.lemmas.List.{map-append}
 use Rattle.kte_text.specs.Primitives.{FitInTurn}
 use Rattle.kte_text.specs.declared.primitive.Primitive.{Primitive}
-use Rattle.kte_history.specs.declared.lock.Owner.TheVariants.{Editor}
-use Rattle.kte_history.specs.Locks.{has_lock}
 use Rattle.kte_edit.specs.Steps.{steps_of}
 use Rattle.kte_undo.specs.Steps.{steps_along, redo_of, forth_of}
 use Rattle.kte_undo.specs.Groups.{Edits, begun, closed, ended, gone_back, gone_forth}
 use Rattle.kte_undo.specs.declared.step.Step.{Step}
 use Rattle.kte_undo.proofs.InverseLemmas.{redoes}
 use Rattle.kte_command.specs.declared.command.Command.{Command}
-use Rattle.kte_command.specs.declared.command.Command.TheVariants.{Edit, Begin, End, Undo, Redo, MakeRange, SetRange, DropRange, ShowRange, Lock, Unlock, Land, Check, Sync, Save}
-use Rattle.kte_core.specs.Editing.{EditReaction, text_of, judged, not_open, still_open, finished_at, noted_all, noted_change, carried, changed, undone, redone, undo_steps, redo_steps, change_refusal, group_refusal, closing, begin_reaction}
+use Rattle.kte_command.specs.declared.command.Command.TheVariants.{Edit, Begin, End, Undo, Redo, Check}
+use Rattle.kte_core.specs.Editing.{EditReaction, text_of, judged, not_open, finished_at, noted_all, noted_change, carried, changed, undone, redone, undo_steps, redo_steps, change_refusal, group_refusal, closing, begin_reaction}
 use Rattle.kte_core.specs.State.{State, Reaction, edited}
-use Rattle.kte_core.specs.React.{react_command, can_land_from, close}
+use Rattle.kte_core.specs.React.{react_command, close}
 use Rattle.kte_core.specs.declared.reply.Reply.TheVariants as reply
 use Rattle.kte_core.specs.declared.reply.Refusal.{Refusal}
-use Rattle.kte_core.proofs.TransactionLemmas.{IsQuiet, IsStill, still-set, still-drop, still-show, still-unlock, still-land, still-outside, depth-noted, FitInTurn-later, shut_unless, open_unless}
+use Rattle.kte_core.proofs.TransactionLemmas.{IsQuiet, IsStill, still, depth-noted, FitInTurn-later, shut_unless, open_unless}
 
 -- the primitives of the open transaction with those made
 abbrev pub opened : State → Reaction → List Primitive
@@ -184,21 +181,9 @@ moves state Redo shut fit =
     let ps = redo_steps editing in
     moves-judged (group_refusal editing editing.edits.redo ps) state (redone reply.Edited editing ps) shut
     (λ fits none. moves-alone state ps (gone_forth _ editing.edits) shut (shut_unless editing editing.edits.redo ps none) refl refl) fit
-moves state (MakeRange span expand empty) shut fit =
-    moves-quiet state (react_command state (MakeRange span expand empty)) (record { editing = refl; made = refl; finished = refl }) shut
-moves state (SetRange id span) shut fit = moves-still state _ (still-set state id span (get state.ranges id)) shut
-moves state (DropRange id) shut fit = moves-still state _ (still-drop state id (get state.ranges id)) shut
-moves state (ShowRange id) shut fit = moves-still state _ (still-show state id (get state.ranges id)) shut
-moves state Lock shut fit =
-    moves-quiet state (react_command state Lock) (record { editing = refl; made = refl; finished = refl }) shut
-moves state (Unlock revision) shut fit =
-    moves-still state _ (still-unlock state revision (has_lock state.locks Editor revision)) shut
-moves state (Land revision span expand empty) shut fit =
-    moves-still state _ (still-land state revision span expand empty (can_land_from state revision)) shut
 moves state (Check rule) shut fit =
     moves-quiet state (react_command state (Check rule)) (record { editing = refl; made = refl; finished = refl }) shut
-moves state Sync shut fit = moves-still state _ (still-outside state (still_open state.editing.edits.depth)) shut
-moves state Save shut fit = moves-still state _ (still-outside state (still_open state.editing.edits.depth)) shut
+moves state command shut fit = moves-still state _ (still state command tt) shut
 
 pub moves-close : (state : State) → IsShut state → Moves state (close state)
 moves-close state shut = moves-quiet state (close state) (record { editing = refl; made = refl; finished = refl }) shut

@@ -37,7 +37,8 @@ use Rattle.kte_run.specs.Editor.{IsTold, Part, is_lost, lost_with, own, IsAt, Fo
 use Rattle.kte_run.specs.Calls.{SavedWith, file_told, is_save, is_saved, listed, transactions_told}
 use Rattle.kte_run.specs.Outcomes.{Begins, Holds, Keeps, file_after, file_by, unsaved_after, unsaved_by}
 use Rattle.kte_run.proofs.FinishLemmas.{joined-listed, moved, saved-shut}
-use Rattle.kte_run.proofs.AskLemmas.{NextBy, came-outcome, part_of}
+use Rattle.kte_run.proofs.AskLemmas.{NextBy, part_of}
+use Rattle.kte_run.proofs.EditorLemmas.{came-outcome}
 
 -- ---- one event more
 

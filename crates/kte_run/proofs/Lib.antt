@@ -2,6 +2,8 @@ pub mod Left
 pub mod Answering
 pub mod Files
 pub mod Ascii
+pub mod GeneratedLemmas
+pub mod GenerateLemmas
 pub mod CallLemmas
 pub mod GroupMoves
 pub mod EditorLemmas

@@ -162,20 +162,9 @@ Counted-from appends calls first before after stays counted =
 
 IsEnding-from : (ending : Status) (events : List Event) (first before after : DiskCall → ℕ) → AllStay first before → IsEnding ending events before after → IsEnding ending events first after
 IsEnding-from status.Ok events first before after stays ends = (ends.0, ends.1 ∙ stays Replace)
-IsEnding-from status.NoMemory events first before after stays ends = absurd ends
-IsEnding-from (status.BadWords at) events first before after stays ends = absurd ends
-IsEnding-from status.ReadFault events first before after stays ends = absurd ends
-IsEnding-from (status.BadScript fault) events first before after stays ends = absurd ends
 IsEnding-from status.DiskFault events first before after stays ends = (subst (λ n. Rose n (after Replace)) (stays Replace) ends.0, ends.1)
-IsEnding-from (status.NotUtf8 at) events first before after stays ends = absurd ends
-IsEnding-from (status.TooLarge size) events first before after stays ends = absurd ends
-IsEnding-from (status.SwapPresent bytes) events first before after stays ends = absurd ends
 IsEnding-from status.SwapLost events first before after stays ends = (ends.0, ends.1 ∙ stays Replace)
-IsEnding-from status.WriteFault events first before after stays ends = absurd ends
-IsEnding-from status.NoSwap events first before after stays ends = absurd ends
-IsEnding-from status.Version events first before after stays ends = absurd ends
-IsEnding-from (status.FileChanged kept found) events first before after stays ends = absurd ends
-IsEnding-from (status.Damaged at done) events first before after stays ends = absurd ends
+IsEnding-from _ events first before after stays ends = absurd ends
 
 -- what is printed after a disk that had counted no more faults than another
 pub Prints-from : (commands : List Command) (file : List ℕ) (loaded : Loaded) (ending : Status) (first before after : Outer) (output : List ℕ)

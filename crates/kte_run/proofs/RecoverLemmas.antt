@@ -102,7 +102,7 @@ tells_refused saved swap given fault answers is = (
 
 -- ---- where there is no text
 
--- what is told of a call that failed
+-- a result that fails with a status has what that status has
 pub if_err : {T : Type 0} (r : Result T Status) (s : Status) (Q : Status → Type 0) → IsErrAnd r (λ e. e ≡ s) → Q s → IfErr r Q
 if_err (Ok v) s Q is q = absurd is
 if_err (Err e) s Q is q = subst Q (sym is) q
@@ -137,20 +137,7 @@ untold_length A moments status.NoSwap of empty is_one =
       each (λ saved swap. Tells saved swap status.NoSwap) (saved_now moments) (swap_now moments)
           (λ saved swap o w. record { answer = no_swap; answers = at_some (λ s. s ≡ []) (swap_now moments) swap w found.1; told = refl }),
     )
-untold_length A moments status.Ok of empty is_one = cc
-untold_length A moments status.NoMemory of empty is_one = cc
-untold_length A moments (status.BadWords at) of empty is_one = cc
-untold_length A moments status.ReadFault of empty is_one = cc
-untold_length A moments (status.BadScript fault) of empty is_one = cc
-untold_length A moments status.DiskFault of empty is_one = cc
-untold_length A moments (status.NotUtf8 at) of empty is_one = cc
-untold_length A moments (status.TooLarge size) of empty is_one = cc
-untold_length A moments (status.SwapPresent bytes) of empty is_one = cc
-untold_length A moments status.SwapLost of empty is_one = cc
-untold_length A moments status.WriteFault of empty is_one = cc
-untold_length A moments status.Version of empty is_one = cc
-untold_length A moments (status.FileChanged kept found) of empty is_one = cc
-untold_length A moments (status.Damaged at done) of empty is_one = cc
+untold_length A moments _ of empty is_one = cc
 
 -- the saved file is refused, or was not read
 untold_file : (A : Type 0) (moments : Option (List Moment)) (given : Status) (fault : LoadFault) → given ≡ file_status fault
@@ -172,19 +159,7 @@ untold_saved A moments (status.TooLarge None) of denied some is_one =
     untold_file A moments (status.TooLarge None) load.LongFile refl (denied load.LongFile (λ e. cc e) refl) some
 untold_saved A moments (status.TooLarge (Some size)) of denied some is_one =
     untold_file A moments (status.TooLarge (Some size)) (load.TooLarge size) refl (denied (load.TooLarge size) (λ e. cc e) refl) some
-untold_saved A moments status.NoSwap of denied some is_one = cc
-untold_saved A moments status.Ok of denied some is_one = cc
-untold_saved A moments status.NoMemory of denied some is_one = cc
-untold_saved A moments (status.BadWords at) of denied some is_one = cc
-untold_saved A moments status.ReadFault of denied some is_one = cc
-untold_saved A moments (status.BadScript fault) of denied some is_one = cc
-untold_saved A moments status.DiskFault of denied some is_one = cc
-untold_saved A moments (status.SwapPresent bytes) of denied some is_one = cc
-untold_saved A moments status.SwapLost of denied some is_one = cc
-untold_saved A moments status.WriteFault of denied some is_one = cc
-untold_saved A moments status.Version of denied some is_one = cc
-untold_saved A moments (status.FileChanged kept found) of denied some is_one = cc
-untold_saved A moments (status.Damaged at done) of denied some is_one = cc
+untold_saved A moments _ of denied some is_one = cc
 
 -- ---- both files were read
 
@@ -231,37 +206,17 @@ both_by P old mid saved stays same h =
 
 unwritten_text : (given : Status) → is_unwritten given ≡ true → has_text given ≡ true → ⊥
 unwritten_text status.Ok of is = cc
-unwritten_text (status.Damaged at done) of is = cc
-unwritten_text status.NoMemory of is = cc
-unwritten_text (status.BadWords at) of is = cc
-unwritten_text status.ReadFault of is = cc
-unwritten_text (status.BadScript fault) of is = cc
-unwritten_text status.DiskFault of is = cc
-unwritten_text (status.NotUtf8 at) of is = cc
-unwritten_text (status.TooLarge size) of is = cc
-unwritten_text (status.SwapPresent bytes) of is = cc
-unwritten_text status.SwapLost of is = cc
-unwritten_text status.WriteFault of is = cc
-unwritten_text status.NoSwap of is = cc
-unwritten_text status.Version of is = cc
-unwritten_text (status.FileChanged kept found) of is = cc
+unwritten_text _ of is = cc
 
 unwritten_only : (given : Status) → is_unwritten given ≡ true → is_of_recovery given ≡ true
-unwritten_only status.Ok of = cc
-unwritten_only (status.Damaged at done) of = cc
 unwritten_only status.NoMemory of = refl
-unwritten_only (status.BadWords at) of = cc
-unwritten_only status.ReadFault of = cc
-unwritten_only (status.BadScript fault) of = cc
 unwritten_only status.DiskFault of = refl
 unwritten_only (status.NotUtf8 at) of = refl
 unwritten_only (status.TooLarge size) of = refl
-unwritten_only (status.SwapPresent bytes) of = cc
-unwritten_only status.SwapLost of = cc
-unwritten_only status.WriteFault of = cc
 unwritten_only status.NoSwap of = refl
 unwritten_only status.Version of = refl
 unwritten_only (status.FileChanged kept found) of = refl
+unwritten_only _ of = cc
 
 -- what comes of each answer of two files
 abbrev Comes : Status → List ℕ → List ℕ → Type 0
@@ -280,21 +235,14 @@ comes_failed moments given is =
 
 comes_unwritten : (moments : Option (List Moment)) (given : Status) → is_unwritten given ≡ true
     → (is_answer given ≡ true → IfBoth moments (λ saved swap. Tells saved swap given)) → IfBoth moments (Comes given)
-comes_unwritten moments status.Ok of tells = cc
-comes_unwritten moments (status.Damaged at done) of tells = cc
 comes_unwritten moments status.NoMemory of tells = comes_failed moments status.NoMemory (2, omega arith, refl)
-comes_unwritten moments (status.BadWords at) of tells = cc
-comes_unwritten moments status.ReadFault of tells = cc
-comes_unwritten moments (status.BadScript fault) of tells = cc
 comes_unwritten moments status.DiskFault of tells = comes_failed moments status.DiskFault (0, omega arith, refl)
 comes_unwritten moments (status.NotUtf8 at) of tells = comes_told moments (status.NotUtf8 at) (tells refl)
 comes_unwritten moments (status.TooLarge size) of tells = comes_told moments (status.TooLarge size) (tells refl)
-comes_unwritten moments (status.SwapPresent bytes) of tells = cc
-comes_unwritten moments status.SwapLost of tells = cc
-comes_unwritten moments status.WriteFault of tells = cc
 comes_unwritten moments status.NoSwap of tells = comes_told moments status.NoSwap (tells refl)
 comes_unwritten moments status.Version of tells = comes_told moments status.Version (tells refl)
 comes_unwritten moments (status.FileChanged kept found) of tells = comes_told moments (status.FileChanged kept found) (tells refl)
+comes_unwritten moments _ of tells = cc
 
 -- nothing was written
 pub recovery_unwritten : (before after : Outer) (got : Option (List ℕ)) (faults : ℕ) (sink_stays : Type 0) (given : Status) → is_unwritten given ≡ true
@@ -327,19 +275,7 @@ text_answer given is = (only given is, apart status.DiskFault (λ e. cc e), apar
   only : (s : Status) → has_text s ≡ true → is_of_recovery s ≡ true
   only status.Ok t = refl
   only (status.Damaged at done) t = refl
-  only status.NoMemory t = cc
-  only (status.BadWords at) t = cc
-  only status.ReadFault t = cc
-  only (status.BadScript fault) t = cc
-  only status.DiskFault t = cc
-  only (status.NotUtf8 at) t = cc
-  only (status.TooLarge size) t = cc
-  only (status.SwapPresent bytes) t = cc
-  only status.SwapLost t = cc
-  only status.WriteFault t = cc
-  only status.NoSwap t = cc
-  only status.Version t = cc
-  only (status.FileChanged kept found) t = cc
+  only _ t = cc
 
 -- the whole text was written
 pub recovery_written : (before after : Outer) (got now : Option (List ℕ)) (faults later : ℕ) (sink_stays : Type 0) (given : Status) (output : List ℕ)

@@ -131,8 +131,8 @@ abbrev pub lost_with : Bool → Option Told → Bool
 lost_with lost None = lost
 lost_with lost (Some told) = lost_by lost (telling told)
 
--- What is told of a call outside, where the swap was lost before it or not. Of an append only its
--- failure is, and it is tried only for a transaction that is finished while the swap is not lost; a
+-- The outcome of a call outside, where the swap was lost before it or not. An append has one only if
+-- it failed, and it is tried only for a transaction that is finished while the swap is not lost; a
 -- sync of a lost swap has failed
 abbrev pub IsTold : OutsideCall → Bool → List Primitive → Option Told → Type 0
 IsTold Call.Append lost finished None = Unit {0}

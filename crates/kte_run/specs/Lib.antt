@@ -1,4 +1,5 @@
 pub mod Statuses
+pub mod Files
 pub mod Schedule
 pub mod Editor
 pub mod Calls
@@ -6,3 +7,4 @@ pub mod Outcomes
 pub mod Alone
 pub mod Run
 pub mod Recover
+pub mod Generate

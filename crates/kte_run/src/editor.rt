@@ -153,8 +153,8 @@ impl Editor {
     }
 
     /// Hears what came of the request that was returned last, and makes the call of the disk that
-    /// it calls for: a sync, a save of these bytes, or the append of a transaction that is finished.
-    /// Fails if memory ran out here, or between two primitives before.
+    /// it calls for: a sync, a save of these bytes, or the append of a transaction that is
+    /// finished. Fails if memory ran out here, or between two primitives before.
     pub(crate) fn answered<D: Disk>(
         &mut self,
         alloc: Global,

@@ -12,6 +12,7 @@ ghost use Rattle.kte_script.specs.Script.{script_of};
 ghost use Rattle.kte_script.specs.declared.TheConstants.{MAX_COMMANDS};
 ghost use Rattle.kte_words.specs.Words.{FirstMisfit, Spells};
 ghost use Rattle.kte_words.specs.declared.words.Words.TheVariants as command;
+ghost use Rattle.kte_run.specs.Generate.{IsGeneration};
 ghost use Rattle.kte_run.specs.Outcomes.{Begins, Ended, ReadsStay};
 ghost use Rattle.kte_run.specs.Recover.{IsRecovery};
 ghost use Rattle.kte_run.specs.Run.{FailedBefore, FilesStay, IsEdit, IsLoadable, LoadRose, DiskRose, Prints, ReadsScript, WasLoaded, WasRead, WasWritten, WritesPrefix, outside};
@@ -19,6 +20,7 @@ ghost use Rattle.kte_run.specs.Statuses.{file_status, is_of_edit, is_of_script};
 
 use crate::MAX_REVISIONS;
 use crate::alone::carry_out;
+use crate::generation::generate;
 use crate::recover::recover_file;
 use crate::saved::{check_no_swap, load_saved};
 use crate::status::Status;
@@ -34,8 +36,8 @@ use kte_words::{Word, Words, parse};
 use std::alloc::{AllocError, Global};
 
 /// Does what the words say: `edit FILE` does what [`edit_alone`] does, and `recover FILE` what
-/// [`recover_file`] does, over the disk of this file. Words that are no command are refused first,
-/// and nothing is asked of script, disk or sink.
+/// [`recover_file`] does, over the disk of this file; `gen NUMBER COUNT` does what [`generate`]
+/// does. Words that are no command are refused first, and nothing is asked of script, disk or sink.
 pub fn run<R, S: Source, O: Sink, D: Disk, K: Checker>(
     _rt: &R,
     alloc: Global,
@@ -61,18 +63,22 @@ pub fn run<R, S: Source, O: Sink, D: Disk, K: Checker>(
         (record { faults = D.faults disk.new; moments = D.moments disk.new })
         (O.got out.old) (O.got out.new) (O.faults out.old) (O.faults out.new)
         (out.new ≡ out.old) result }
+    ensures generate { (number count : _) → Spells words.now (command.Gen number count)
+        → (script.new ≡ script.old) × (disk.new ≡ disk.old) × IsGeneration number count
+        (O.got out.old) (O.got out.new) (O.faults out.old) (O.faults out.new) result }
 {
     match parse(words) {
         Ok(Words::Edit { .. }) => edit_alone(alloc, script, disk, out, checker),
         Ok(Words::Recover { .. }) => recover_file(alloc, disk, out),
+        Ok(Words::Gen { number, count }) => generate(alloc, number, count, out),
         Err(fault) => Status::BadWords { at: fault.at },
     }
 }
 
-/// Edits the disk's saved file by a script, on one thread: reads the script from the source, carries
-/// out its commands on the text of the file, closes the session, does each job that was posted, and
-/// writes the journal and the report to the sink. While it edits, it writes each finished
-/// transaction to the swap file; a save replaces the saved file and empties the swap file.
+/// Edits the disk's saved file by a script, on one thread: reads the script from the source,
+/// carries out its commands on the text of the file, closes the session, does each job that was
+/// posted, and writes the journal and the report to the sink. While it edits, it writes each
+/// finished transaction to the swap file; a save replaces the saved file and empties the swap file.
 ///
 /// The script is judged first, then that there is no swap file, then the saved file, and the output
 /// is written last. A status says that all before it went well, and nothing is asked of what comes
@@ -134,8 +140,8 @@ fn read_commands<S: Source>(alloc: Global, script: &mut S) -> Result<Vec<Command
     Ok(commands.into_commands())
 }
 
-/// Carries out some commands after loading. Returns the output, which is the journal and the report,
-/// and how the run ends once it is written. The swap is that of an empty swap file.
+/// Carries out some commands after loading. Returns the output, which is the journal and the
+/// report, and how the run ends once it is written. The swap is that of an empty swap file.
 fn edited<D: Disk, K: Checker>(
     alloc: Global,
     loaded: Loaded,

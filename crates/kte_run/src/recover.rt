@@ -8,7 +8,7 @@ ghost use Rattle.kte_run.specs.Run.{DiskRose, IsLoadable};
 ghost use Rattle.kte_run.specs.Recover.{IfBoth, IsRecovery, Shows, Tells, has_text, is_answer};
 ghost use Rattle.kte_run.specs.Statuses.{is_of_length, is_unread, is_unwritten};
 
-use crate::saved::load_saved;
+use crate::saved::{DiskFile, length_of, load_saved, read_file};
 use crate::status::Status;
 use kte_causes::{Disk, Sink, write_whole};
 use kte_recover::{RecoverFault, recover_loaded};
@@ -17,8 +17,8 @@ use kte_text::Loaded;
 use std::alloc::Global;
 
 /// Recovers the text of the disk's saved file and the swap file beside it, and writes it to the
-/// sink: how many transactions count, how the records end, the digest and the text. The disk's files
-/// stay as they are.
+/// sink: how many transactions count, how the records end, the digest and the text. The disk's
+/// files stay as they are.
 ///
 /// The swap file's length is judged first, then the saved file, then the swap file. A damaged swap
 /// file has a text too, and its status comes after the text is written.
@@ -39,8 +39,8 @@ pub fn recover_file<D: Disk, O: Sink>(alloc: Global, disk: &mut D, out: &mut O) 
     }
 }
 
-/// Returns what is written for the two files of the disk, and the status after it. Fails if there is
-/// no text, with the status that says why.
+/// Returns what is written for the two files of the disk, and the status after it. Fails if there
+/// is no text, with the status that says why.
 fn recovered<D: Disk>(alloc: Global, disk: &mut D) -> Result<(Status, Vec<u8>), Status>
     ensures shown { IfOk result (λ shown. (has_text shown.0 ≡ true)
         × AllStay (D.faults disk.old) (D.faults disk.new)
@@ -74,14 +74,14 @@ fn check_swap<D: Disk>(disk: &mut D) -> Result<(), Status>
         → result ≡ Err Status.DiskFault }
     ensures files { AddsMoments Staying (D.moments disk.old) (D.moments disk.new) }
 {
-    if disk.swap_len()? == 0 {
+    if length_of(disk, DiskFile::Swap)? == 0 {
         return Err(Status::NoSwap);
     }
     Ok(())
 }
 
-/// Reads the swap file, and returns what is written for it beside a saved file, which is loaded, and
-/// the status after it. Fails if there is no text, with the status that says why.
+/// Reads the swap file, and returns what is written for it beside a saved file, which is loaded,
+/// and the status after it. Fails if there is no text, with the status that says why.
 fn recovered_beside<D: Disk>(
     alloc: Global,
     disk: &mut D,
@@ -105,9 +105,8 @@ fn recovered_beside<D: Disk>(
     ensures only { IfErr result (λ status. is_unwritten status ≡ true) }
     ensures files { AddsMoments Staying (D.moments disk.old) (D.moments disk.new) }
 {
-    let length = disk.swap_len()?;
-    let mut swap = vec![in alloc; 0; length as usize]?;
-    disk.swap_at(0, &mut swap)?;
+    let size = length_of(disk, DiskFile::Swap)?;
+    let swap = read_file(alloc, disk, DiskFile::Swap, size)?;
     shown(alloc, saved, loaded, &swap)
 }
 

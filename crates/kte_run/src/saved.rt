@@ -1,17 +1,76 @@
-ghost use Rattle.std.specs.Prelude.{◌≡◌, ◌≢◌, ◌<◌, ◌⊎◌, ℕ, [], ◌∷◌, length, true, Err, Some, IfOk, IfErr, IfSome, IsErr, IsSomeAnd, IsErrOf, OnOk, Contains};
+ghost use Rattle.std.specs.Prelude.{◌≡◌, ◌≢◌, ◌<◌, ◌≤◌, ◌⊎◌, ℕ, [], ◌∷◌, length, take, true, Err, Some, IfOk, IfErr, IfSome, IsErr, IsSomeAnd, IsErrOf, OnOk, Contains};
 ghost use Rattle.kte_causes.specs.Faults.{Rose};
 ghost use Rattle.kte_causes.specs.declared.causes.DiskCall.TheVariants.{SwapLen};
-ghost use Rattle.kte_causes.specs.DiskFaults.{AllStay};
+ghost use Rattle.kte_causes.specs.DiskFaults.{AllStay, CountsDiskFault};
 ghost use Rattle.kte_causes.specs.Moments.{AddsMoments, Staying, saved_now, swap_now};
 ghost use Rattle.kte_text.specs.Files.{Loads, Refuses};
 ghost use Rattle.kte_text.specs.declared.loading.LoadFault.TheVariants.{NoMemory};
+ghost use Rattle.kte_run.specs.Files.{at_of, file_now, len_of};
 ghost use Rattle.kte_run.specs.Run.{LoadRose, IsLoadable};
 ghost use Rattle.kte_run.specs.Statuses.{file_status, is_of_file, is_of_swap};
 
 use crate::status::Status;
-use kte_causes::Disk;
+use kte_causes::{Disk, DiskFail};
 use kte_text::{LoadFault, Loaded, MAX_FILE_LENGTH, load};
 use std::alloc::Global;
+
+/// One of the two files of a disk.
+#[derive(Clone, Copy)]
+pub(crate) enum DiskFile {
+    /// The saved file.
+    Saved,
+    /// The swap file beside it, which is empty if it is not there.
+    Swap,
+}
+
+/// Returns the length of a file, in bytes.
+pub(crate) fn length_of<D: Disk>(disk: &mut D, file: DiskFile) -> Result<u64, DiskFail>
+    ensures value { IfSome (file_now file (D.moments disk.new))
+        (λ bytes. IfOk result (λ n. n ≡ length bytes)) }
+    ensures before { IfSome (file_now file (D.moments disk.old))
+        (λ bytes. IfOk result (λ n. n ≡ length bytes)) }
+    ensures files { AddsMoments Staying (D.moments disk.old) (D.moments disk.new) }
+    ensures counts { CountsDiskFault (len_of file) result (D.faults disk.old)
+        (D.faults disk.new) }
+{
+    match file {
+        DiskFile::Saved => disk.saved_len(),
+        DiskFile::Swap => disk.swap_len(),
+    }
+}
+
+/// Returns the bytes of a file, of which there are so many.
+pub(crate) fn read_file<D: Disk>(
+    alloc: Global,
+    disk: &mut D,
+    file: DiskFile,
+    size: u64,
+) -> Result<Vec<u8>, DiskFail>
+    requires { IfSome (file_now file (D.moments disk.old)) (λ bytes. size ≡ length bytes) }
+    ensures bytes { IfOk result (λ bytes. IfSome (file_now file (D.moments disk.old))
+        (λ there. bytes.items ≡ there)) }
+    ensures files { AddsMoments Staying (D.moments disk.old) (D.moments disk.new) }
+    ensures counts { CountsDiskFault (at_of file) result (D.faults disk.old) (D.faults disk.new) }
+{
+    let mut bytes = vec![in alloc; 0; size as usize]?;
+    fill(disk, file, &mut bytes)?;
+    Ok(bytes)
+}
+
+/// Fills `buf` with the first bytes of a file. What a call that fails leaves in `buf` is not said.
+fn fill<D: Disk>(disk: &mut D, file: DiskFile, buf: &mut [u8]) -> Result<(), DiskFail>
+    requires { IfSome (file_now file (D.moments disk.old)) (λ bytes.
+        length buf.old ≤ length bytes) }
+    ensures value { IfSome (file_now file (D.moments disk.new))
+        (λ bytes. OnOk result (buf.new ≡ take (length buf.old) bytes)) }
+    ensures files { AddsMoments Staying (D.moments disk.old) (D.moments disk.new) }
+    ensures counts { CountsDiskFault (at_of file) result (D.faults disk.old) (D.faults disk.new) }
+{
+    match file {
+        DiskFile::Saved => disk.saved_at(0, buf),
+        DiskFile::Swap => disk.swap_at(0, buf),
+    }
+}
 
 /// Reads the saved file and loads it. Returns its bytes and what is loaded. One that is too long is
 /// not read.
@@ -35,12 +94,11 @@ pub(crate) fn load_saved<D: Disk>(alloc: Global, disk: &mut D) -> Result<(Vec<u8
         ⊎ (status ≡ Status.NoMemory)) }
     ensures files { AddsMoments Staying (D.moments disk.old) (D.moments disk.new) }
 {
-    let length = disk.saved_len()?;
-    if length > MAX_FILE_LENGTH {
+    let size = length_of(disk, DiskFile::Saved)?;
+    if size > MAX_FILE_LENGTH {
         return Err(Status::from(LoadFault::LongFile));
     }
-    let mut bytes = vec![in alloc; 0; length as usize]?;
-    disk.saved_at(0, &mut bytes)?;
+    let bytes = read_file(alloc, disk, DiskFile::Saved, size)?;
     let loaded = load(alloc, &bytes)?;
     Ok((bytes, loaded))
 }
@@ -63,7 +121,7 @@ pub(crate) fn check_no_swap<D: Disk>(disk: &mut D) -> Result<(), Status>
         → result ≡ Err Status.DiskFault }
     ensures files { AddsMoments Staying (D.moments disk.old) (D.moments disk.new) }
 {
-    let bytes = disk.swap_len()?;
+    let bytes = length_of(disk, DiskFile::Swap)?;
     if bytes > 0 {
         return Err(Status::SwapPresent { bytes });
     }

@@ -11,8 +11,10 @@ use kte_script::ScriptFault;
 use kte_text::{Digest, MAX_FILE_LENGTH};
 use kte_words::Word;
 use std::alloc::{AllocError, Global};
+use std::process::Abort;
 use std::test::Fail;
 
+mod generate;
 mod swap;
 
 const FILE: &[u8] = b"hello\n";
@@ -45,13 +47,13 @@ fn ended(status: Status) -> Result<Status, Fail> {
 }
 
 /// Runs words over a script and a file in memory. Gives the status and the bytes written.
-fn outcome(
-    rt: &HostRuntime,
+fn outcome<R>(
+    rt: &R,
+    alloc: Global,
     texts: &[&str],
     script: &[u8],
     file: &[u8],
 ) -> Result<(Status, Vec<u8>), Fail> {
-    let alloc = rt.alloc();
     let words = words(alloc, texts)?;
     let mut source = CalmSource::new(script.to_vec(alloc)?);
     let mut disk = CalmDisk::new(file.to_vec(alloc)?, Vec::new(alloc));
@@ -88,9 +90,37 @@ fn shown(alloc: Global, written: &[u8]) -> Result<Vec<u8>, Fail> {
 }
 
 /// The status's code of `edit FILE`, and the replies and the text.
-fn edit(rt: &HostRuntime, script: &[u8], file: &[u8]) -> Result<(u8, Vec<u8>), Fail> {
-    let (status, written) = outcome(rt, &["edit", "file"], script, file)?;
-    Ok((status.code(), shown(rt.alloc(), &written)?))
+fn edit<R>(rt: &R, alloc: Global, script: &[u8], file: &[u8]) -> Result<(u8, Vec<u8>), Fail> {
+    let (status, written) = outcome(rt, alloc, &["edit", "file"], script, file)?;
+    Ok((status.code(), shown(alloc, &written)?))
+}
+
+/// Asserts, for each file and script, the replies and the text.
+fn assert_shown(
+    rt: &impl Abort,
+    alloc: Global,
+    table: &[(&[u8], &[u8], &[u8])],
+) -> Result<(), Fail> {
+    for (file, script, output) in table {
+        let (ended, written) = edit(rt, alloc, script, file)?;
+        assert_eq!(rt; ended, 0);
+        assert_eq!(rt; written.as_slice(), *output);
+    }
+    Ok(())
+}
+
+/// Asserts, for each file and script, all that is written.
+fn assert_written(
+    rt: &impl Abort,
+    alloc: Global,
+    table: &[(&[u8], &[u8], &[u8])],
+) -> Result<(), Fail> {
+    for (file, script, output) in table {
+        let (status, written) = outcome(rt, alloc, &["edit", "file"], script, file)?;
+        assert_eq!(rt; status, Status::Ok);
+        assert_eq!(rt; written.as_slice(), *output);
+    }
+    Ok(())
 }
 
 #[test]
@@ -123,12 +153,67 @@ range 1 job 1 none void 0 1 0 3\nhidden 0\n\
 digest 0d13814d585b11dbeae7a42377d7422f93d2be15\ntext\n|a  \n|\n",
         ),
     ];
-    for (file, script, output) in table {
-        let (status, written) = outcome(&rt, &["edit", "file"], script, file)?;
-        assert_eq!(rt; status, Status::Ok);
-        assert_eq!(rt; written.as_slice(), output);
-    }
-    Ok(())
+    assert_written(&rt, rt.alloc(), &table)
+}
+
+#[test]
+fn folds_hide_lines(rt: HostRuntime) -> Result<(), Fail> {
+    let table: [(&[u8], &[u8], &[u8]); 4] = [
+        (
+            b"a\nb\nc\nd",
+            b"fold 0 1 2 0\nfold 1 0 3 1",
+            b"journal 3\n0 fold 0 1 2 0 = range 1 0 1 2 0\n0 fold 1 0 3 1 = refused crosses 1\n\
+0 close = closed\n\
+report\nlines 4\nrevision 0\nsize 7\nkept 0\nundo 0 0\nranges 1\n\
+range 1 fold none void 0 1 2 0\nhidden 2\nhide 1 2\n\
+digest 27a7ea60561953234e709fe8f1caaf5892ce4481\ntext\n|a\n|b\n|c\n|d\n",
+        ),
+        (
+            b"a\nb\nc\nd",
+            b"fold 0 1 2 0\nfold 1 0 3 1\nunfold 1\nunfold 1",
+            b"journal 5\n0 fold 0 1 2 0 = range 1 0 1 2 0\n0 fold 1 0 3 1 = refused crosses 1\n\
+0 unfold 1 = dropped 1\n0 unfold 1 = refused nofold 1\n0 close = closed\n\
+report\nlines 4\nrevision 0\nsize 7\nkept 0\nundo 0 0\nranges 0\nhidden 0\n\
+digest 27a7ea60561953234e709fe8f1caaf5892ce4481\ntext\n|a\n|b\n|c\n|d\n",
+        ),
+        // A line is removed under a fold, which no command on ranges takes.
+        (
+            b"a\nb\nc\nd",
+            b"fold 0 1 2 0\nremove 1 0 2 0\nwhere 1",
+            b"journal 4\n0 fold 0 1 2 0 = range 1 0 1 2 0\n0 remove 1 0 2 0 = edited 2 2 0\n\
+0 where 1 = refused norange 1\n0 close = closed\n\
+report\nlines 3\nrevision 2\nsize 5\nkept 0\nundo 1 0\nranges 1\n\
+range 1 fold none void 0 1 1 0\nhidden 1\nhide 1 1\n\
+digest a3e1ab447ea5d3788250981a9d1345d247be68b0\ntext\n|a\n|c\n|d\n",
+        ),
+        // All that a fold spans is removed: it stays invalid after an undo.
+        (
+            b"a\nb\nc\nd",
+            b"fold 0 1 2 0\nremove 0 1 2 0\nundo",
+            b"journal 4\n0 fold 0 1 2 0 = range 1 0 1 2 0\n0 remove 0 1 2 0 = edited 3 3 0\n\
+0 undo = edited 3 6 0\n0 close = closed\n\
+report\nlines 4\nrevision 6\nsize 7\nkept 0\nundo 0 1\nranges 1\n\
+range 1 fold none void invalid\nhidden 0\n\
+digest 27a7ea60561953234e709fe8f1caaf5892ce4481\ntext\n|a\n|b\n|c\n|d\n",
+        ),
+    ];
+    assert_written(&rt, rt.alloc(), &table)
+}
+
+#[test]
+fn searches_find_from_a_place(rt: HostRuntime) -> Result<(), Fail> {
+    let table: [(&[u8], &[u8], &[u8]); 1] = [(
+        b"foo Foo food",
+        b"all \"foo\" nocase word\nfind 0 1 \"foo\" case part\n\
+findback 0 8 \"foo\" nocase part\nfind 0 9 \"foo\" case part",
+        b"journal 5\n0 all \"foo\" nocase word = found 0 0 0 3 0 4 0 7\n\
+0 find 0 1 \"foo\" case part = found 0 8 0 11\n\
+0 findback 0 8 \"foo\" nocase part = found 0 4 0 7\n\
+0 find 0 9 \"foo\" case part = refused nomatch\n0 close = closed\n\
+report\nlines 1\nrevision 0\nsize 12\nkept 0\nundo 0 0\nranges 0\nhidden 0\n\
+digest 8ac42f7a88a7760a99dacb3f9a7eaa3fb2ba0f86\ntext\n|foo Foo food\n",
+    )];
+    assert_written(&rt, rt.alloc(), &table)
 }
 
 #[test]
@@ -147,7 +232,7 @@ fn one_insertion_from_bytes_to_bytes(rt: HostRuntime) -> Result<(), Fail> {
         (b"\xC3", b"insert 0 5", 4, b""),
     ];
     for (file, script, code, output) in table {
-        let (ended, written) = edit(&rt, script, file)?;
+        let (ended, written) = edit(&rt, rt.alloc(), script, file)?;
         assert_eq!(rt; ended, code);
         assert_eq!(rt; written.as_slice(), output);
     }
@@ -178,11 +263,11 @@ fn a_script_has_comments_and_spare_spaces(rt: HostRuntime) -> Result<(), Fail> {
         (b"insert 2 0 \"!\"", b"refused noline 2\ntext\n|hello\n|\n"),
     ];
     for (script, output) in table {
-        let (ended, written) = edit(&rt, script, FILE)?;
+        let (ended, written) = edit(&rt, rt.alloc(), script, FILE)?;
         assert_eq!(rt; ended, 0);
         assert_eq!(rt; written.as_slice(), output);
     }
-    let (ended, written) = edit(&rt, b"wrap 0 1", b"\xF0\x9F\x98\x80")?;
+    let (ended, written) = edit(&rt, rt.alloc(), b"wrap 0 1", b"\xF0\x9F\x98\x80")?;
     assert_eq!(rt; ended, 0);
     assert_eq!(rt;
         written.as_slice(),
@@ -201,7 +286,7 @@ fn a_script_at_fault_is_named(rt: HostRuntime) -> Result<(), Fail> {
     ];
     for (script, line, column) in table {
         // The script is judged before the file, which is not UTF-8.
-        let (status, written) = outcome(&rt, &["edit", "file"], script, b"\xC3")?;
+        let (status, written) = outcome(&rt, rt.alloc(), &["edit", "file"], script, b"\xC3")?;
         let fault = ScriptFault::Bad { line, column };
         assert_eq!(rt; status, Status::BadScript(fault));
         assert!(rt; written.is_empty());
@@ -215,12 +300,12 @@ fn a_revision_that_is_locked_twice(rt: HostRuntime) -> Result<(), Fail> {
 land 0 0 1 0 2 none allow\nunlock 0\n";
     let output = b"locked 0\nlocked 0\nunlocked 0\nedited 1 1 0\nlanded 0 2 0 3\nunlocked 0\n\
 refused notlocked 0 none\nrefused notowned 0\ntext\n|xab\n|\n";
-    let (ended, written) = edit(&rt, script, b"ab\n")?;
+    let (ended, written) = edit(&rt, rt.alloc(), script, b"ab\n")?;
     assert_eq!(rt; ended, 0);
     assert_eq!(rt; written.as_slice(), output.as_slice());
     let script = b"lock\nunwrap 1\nland 0 0 10 1 2 none allow\nland 0 0 10 1 2 none void\n";
     let output = b"locked 0\nedited 1 1 0\nlanded 0 10 0 10\nlanded invalid\ntext\n|abcde\n";
-    let (ended, written) = edit(&rt, script, b"abc\nde")?;
+    let (ended, written) = edit(&rt, rt.alloc(), script, b"abc\nde")?;
     assert_eq!(rt; ended, 0);
     assert_eq!(rt; written.as_slice(), output.as_slice());
     Ok(())
@@ -263,12 +348,7 @@ fn changes_over_several_lines(rt: HostRuntime) -> Result<(), Fail> {
         ),
         (b"a", b"replace 0 1 0 1 \"\"", b"edited 0 0 0\ntext\n|a\n"),
     ];
-    for (file, script, output) in table {
-        let (ended, written) = edit(&rt, script, file)?;
-        assert_eq!(rt; ended, 0);
-        assert_eq!(rt; written.as_slice(), output);
-    }
-    Ok(())
+    assert_shown(&rt, rt.alloc(), &table)
 }
 
 #[test]
@@ -306,12 +386,7 @@ edited 0 4 0\nedited 1 5 0\nedited 1 6 0\nedited 1 7 0\nrefused nothing\ntext\n|
 edited 1 3 0\nlanded 0 0 0 0\ntext\n|\n",
         ),
     ];
-    for (file, script, output) in table {
-        let (ended, written) = edit(&rt, script, file)?;
-        assert_eq!(rt; ended, 0);
-        assert_eq!(rt; written.as_slice(), output);
-    }
-    Ok(())
+    assert_shown(&rt, rt.alloc(), &table)
 }
 
 #[test]
@@ -342,12 +417,7 @@ range 2 invalid\ntext\n|abcde\n",
             b"range 1 0 0 0 1\nrange 1 0 1 0 3\ndropped 1\nrefused norange 1\ntext\n|abc\n",
         ),
     ];
-    for (file, script, output) in table {
-        let (ended, written) = edit(&rt, script, file)?;
-        assert_eq!(rt; ended, 0);
-        assert_eq!(rt; written.as_slice(), output);
-    }
-    Ok(())
+    assert_shown(&rt, rt.alloc(), &table)
 }
 
 #[test]
@@ -369,7 +439,7 @@ fn a_refused_command_in_mid_script_changes_nothing(rt: HostRuntime) -> Result<()
         output.extend_from_slice(reply)?;
         output.push(b'\n')?;
         output.extend_from_slice(SHOWN)?;
-        let (ended, written) = edit(&rt, &script, FILE)?;
+        let (ended, written) = edit(&rt, rt.alloc(), &script, FILE)?;
         assert_eq!(rt; ended, 0);
         assert_eq!(rt; written.as_slice(), output.as_slice());
     }
@@ -451,7 +521,7 @@ fn words_that_are_no_command(rt: HostRuntime) -> Result<(), Fail> {
         (&["edit", "file", "more"], 2),
     ];
     for (texts, at) in table {
-        let (status, written) = outcome(&rt, texts, SCRIPT, FILE)?;
+        let (status, written) = outcome(&rt, rt.alloc(), texts, SCRIPT, FILE)?;
         assert_eq!(rt; status, Status::BadWords { at });
         assert!(rt; written.is_empty());
     }

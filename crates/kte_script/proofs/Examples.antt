@@ -9,12 +9,12 @@ use Rattle.kte_place.specs.Place.{at}
 use Rattle.kte_place.specs.Examples.{span, expand}
 use Rattle.kte_place.specs.declared.span.Empty.TheVariants.{Allow, Void}
 use Rattle.kte_edit.specs.declared.change.Change.TheVariants as Change
-use Rattle.kte_command.specs.declared.command.Command.TheVariants.{Edit, Begin, End, Undo, Redo, MakeRange, SetRange, DropRange, Check, Sync, Save}
+use Rattle.kte_command.specs.declared.command.Command.TheVariants.{Edit, Begin, End, Undo, Redo, MakeRange, SetRange, DropRange, Fold, Unfold, Find, FindBack, All, Check, Sync, Save}
 use Rattle.kte_find.specs.declared.rule.Rule.TheVariants as rules
 use Rattle.kte_script.specs.declared.limits.Limits.TheVariants.{Journal}
 use Rattle.kte_script.specs.Words.{skip, word, behind, is_number, number_of}
 use Rattle.kte_script.specs.Strings.{string_from, string_at, line_in, text_in, pattern_in, spell_byte, spell_text}
-use Rattle.kte_script.specs.Fields.{number_at, place_at, span_at, text_at, spans_at, pattern_at, rule_name, rule_at, expand_of, expand_at, empty_of, empty_at}
+use Rattle.kte_script.specs.Fields.{number_at, place_at, span_at, text_at, spans_at, pattern_at, folds_of, folds_at, whole_of, whole_at, how_at, query_of, query_at, rule_name, rule_at, expand_of, expand_at, empty_of, empty_at}
 use Rattle.kte_script.specs.Table.{table, spelling}
 use Rattle.kte_script.specs.Reading.{row_at, front_at, end_at, command_at}
 use Rattle.kte_script.specs.Script.{lines_of}
@@ -136,6 +136,50 @@ no_word = refl
 two_words : command_at (codes "check word " ++ 34 ∷ 97 ∷ 92 ∷ 110 ∷ 34 ∷ []) ≡ Err 5
 unfolding skip word behind string_from string_at line_in pattern_in pattern_at is_utf8 chars encode_utf8 rule_name rule_at row_at front_at end_at command_at
 two_words = refl
+
+-- folds and searches
+folded : command_at (codes "fold 2 0 1 0") ≡ Ok (Fold (span 1 0 2 0))
+unfolding skip word behind is_number number_of number_at place_at span_at row_at front_at end_at command_at
+folded = refl
+
+unfolded : command_at (codes "unfold 4294967295") ≡ Ok (Unfold 4294967295)
+unfolding skip word behind is_number number_of number_at row_at front_at end_at command_at
+unfolded = refl
+
+unfolded_too_far : command_at (codes "unfold 4294967296") ≡ Err 10
+unfolding skip word behind is_number number_of number_at row_at front_at end_at command_at
+unfolded_too_far = refl
+
+sought : command_at (codes "find 0 0 " ++ 34 ∷ 97 ∷ 34 ∷ codes " case part")
+    ≡ Ok (Find (at 0 0) (query_of (codes "a") (false, false)))
+unfolding skip word behind is_number number_of number_at place_at string_from string_at line_in pattern_in pattern_at is_utf8 chars encode_utf8 folds_of folds_at whole_of whole_at how_at query_at row_at front_at end_at command_at
+sought = refl
+
+sought_back : command_at (codes "findback 3 7 " ++ 34 ∷ 97 ∷ 98 ∷ 34 ∷ codes " nocase part")
+    ≡ Ok (FindBack (at 3 7) (query_of (codes "ab") (true, false)))
+unfolding skip word behind is_number number_of number_at place_at string_from string_at line_in pattern_in pattern_at is_utf8 chars encode_utf8 folds_of folds_at whole_of whole_at how_at query_at row_at front_at end_at command_at
+sought_back = refl
+
+sought_all : command_at (codes "all " ++ 34 ∷ 97 ∷ 34 ∷ codes "  case  word ") ≡ Ok (All (query_of (codes "a") (false, true)))
+unfolding skip word behind string_from string_at line_in pattern_in pattern_at is_utf8 chars encode_utf8 folds_of folds_at whole_of whole_at how_at query_at row_at front_at end_at command_at
+sought_all = refl
+
+-- what is sought is not empty and no several lines
+nothing_sought : command_at (codes "find 0 0 " ++ 34 ∷ 34 ∷ codes " case part") ≡ Err 12
+unfolding skip word behind is_number number_of number_at place_at string_from string_at line_in pattern_in pattern_at is_utf8 chars encode_utf8 folds_of folds_at whole_of whole_at how_at query_at row_at front_at end_at command_at
+nothing_sought = refl
+
+lines_sought : command_at (codes "find 0 0 " ++ 34 ∷ 97 ∷ 92 ∷ 110 ∷ 98 ∷ 34 ∷ codes " case part") ≡ Err 16
+unfolding skip word behind is_number number_of number_at place_at string_from string_at line_in pattern_in pattern_at is_utf8 chars encode_utf8 folds_of folds_at whole_of whole_at how_at query_at row_at front_at end_at command_at
+lines_sought = refl
+
+no_case : command_at (codes "find 0 0 " ++ 34 ∷ 97 ∷ 34 ∷ codes " Case part") ≡ Err 9
+unfolding skip word behind is_number number_of number_at place_at string_from string_at line_in pattern_in pattern_at is_utf8 chars encode_utf8 folds_of folds_at whole_of whole_at how_at query_at row_at front_at end_at command_at
+no_case = refl
+
+no_whole : command_at (codes "all " ++ 34 ∷ 97 ∷ 34 ∷ codes " case") ≡ Err 0
+unfolding skip word behind string_from string_at line_in pattern_in pattern_at is_utf8 chars encode_utf8 folds_of folds_at whole_of whole_at how_at query_at row_at front_at end_at command_at
+no_whole = refl
 
 -- calls of the disk have no fields
 script_sync : command_at (codes "sync") ≡ Ok Sync
@@ -269,6 +313,26 @@ spelled_set = refl
 spelled_word : spelling (Check (rules.Word (codes "ab"))) ≡ codes "check word " ++ 34 ∷ 97 ∷ 98 ∷ 34 ∷ []
 unfolding spell_byte spell_text utf16_chars encode_utf8
 spelled_word = refl
+
+spelled_fold : spelling (Fold (span 1 0 2 0)) ≡ codes "fold 1 0 2 0"
+unfolding digits
+spelled_fold = refl
+
+spelled_unfold : spelling (Unfold 7) ≡ codes "unfold 7"
+unfolding digits
+spelled_unfold = refl
+
+spelled_find : spelling (Find (at 0 12) (query_of (codes "a") (false, false))) ≡ codes "find 0 12 " ++ 34 ∷ 97 ∷ 34 ∷ codes " case part"
+unfolding digits spell_byte spell_text utf16_chars encode_utf8
+spelled_find = refl
+
+spelled_find_back : spelling (FindBack (at 3 0) (query_of (codes "a") (false, true))) ≡ codes "findback 3 0 " ++ 34 ∷ 97 ∷ 34 ∷ codes " case word"
+unfolding digits spell_byte spell_text utf16_chars encode_utf8
+spelled_find_back = refl
+
+spelled_all : spelling (All (query_of (97 ∷ 9 ∷ []) (true, false))) ≡ codes "all " ++ 34 ∷ 97 ∷ 92 ∷ 116 ∷ 34 ∷ codes " nocase part"
+unfolding spell_byte spell_text utf16_chars encode_utf8
+spelled_all = refl
 
 spelled_rules : spelling (Check rules.Blanks) ≡ codes "check blanks"
 spelled_rules = refl

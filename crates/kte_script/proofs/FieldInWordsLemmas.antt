@@ -21,14 +21,14 @@ use Rattle.kte_place.specs.Span.{between}
 use Rattle.kte_script.specs.declared.limits.Limits.{Limits}
 use Rattle.kte_script.specs.Words.{skip, word, behind, is_number, number_of}
 use Rattle.kte_script.specs.Strings.{text_in, pattern_in}
-use Rattle.kte_script.specs.Fields.{Count, ALine, AColumn, most, most_digits, Kind, Number, OrNone, APlace, ASpan, OrInvalid, Spans, AText, APattern, ARule, Expands, Empties, Succeeds, Closes, Reading, ◌>>=◌, word_at, one_of, number_at, or_none_of, or_none_at, place_at, span_at, or_invalid_at, starts_number, spans_from, spans_at, text_at, pattern_at, RuleName, ForWord, ForBlanks, ForLong, ForPairs, ForRepeat, rule_word, rule_name, rule_after, rule_at, expand_of, expand_at, empty_of, empty_at, succeeds_of, succeeds_at, closes_of, closes_at, expand_word, read_field}
+use Rattle.kte_script.specs.Fields.{Count, ALine, AColumn, most, most_digits, Kind, Number, OrNone, APlace, ASpan, OrInvalid, Spans, AText, APattern, AQuery, ARule, Expands, Empties, Succeeds, Closes, Reading, ◌>>=◌, word_at, one_of, number_at, or_none_of, or_none_at, place_at, span_at, or_invalid_at, starts_number, spans_from, spans_at, text_at, pattern_at, fold_word, folds_of, folds_at, whole_word, whole_of, whole_at, how_at, query_of, query_at, RuleName, ForWord, ForBlanks, ForLong, ForPairs, ForRepeat, rule_word, rule_name, rule_after, rule_at, expand_of, expand_at, empty_of, empty_at, succeeds_of, succeeds_at, closes_of, closes_at, expand_word, succeeds_word, closes_word, read_field}
 use Rattle.kte_script.specs.Table.{Values}
 use Rattle.kte_script.specs.Reading.{read_fields}
-use Rattle.kte_script.specs.InWords.{Begins, Misfits, IsNumber, IsOrNone, IsQuoted, IsQuotedPattern, IsRuleName, IsExpand, IsEmpty, DoesSucceed, DoesClose, HasNumber, FailsNumber, HasPlace, FailsPlace, HasSpan, FailsSpan, IsInvalid, HasOrInvalid, FailsOrInvalid, Continues, HasSpans, FailsSpans, HasRuleAfter, FailsRuleAfter, HasRule, FailsRule, HasField, FailsField, HasFields, FailsFields}
+use Rattle.kte_script.specs.InWords.{Begins, Misfits, IsNumber, IsOrNone, IsQuoted, IsQuotedPattern, IsFold, IsWhole, IsRuleName, IsExpand, IsEmpty, DoesSucceed, DoesClose, HasNumber, FailsNumber, HasPlace, FailsPlace, HasSpan, FailsSpan, IsInvalid, HasOrInvalid, FailsOrInvalid, Continues, HasSpans, FailsSpans, HasQuotedPattern, HasHow, FailsHow, HasQuery, FailsQuery, HasRuleAfter, FailsRuleAfter, HasRule, FailsRule, HasField, FailsField, HasFields, FailsFields}
 use Rattle.kte_script.proofs.AgainLemmas.{IsWord, all_digits, all_other, digits_start, digits_no_word}
 use Rattle.kte_script.proofs.NumberLemmas.{digits}
 use Rattle.kte_script.proofs.WordLemmas.{found}
-use Rattle.kte_script.proofs.RoundLemmas.{expand_is, expand_means}
+use Rattle.kte_script.proofs.RoundLemmas.{expand_is, expand_means, flag_of, AreFlags, success_flags, closed_flags, fold_flags, whole_flags}
 use Rattle.kte_script.proofs.PieceLemmas.{quoted_front, text_quotes, pattern_quotes}
 use Rattle.kte_script.proofs.ReadsLemmas.{Reads, word_reads, meaning_front, then_reads, spaces_of, skipped, starts-skip, skip-spaces, begun_skip, begun_word, begun_behind, bind_ok, bind_err, done_same}
 
@@ -86,7 +86,7 @@ text_reads : Reads (λ text. Begins (IsQuoted text)) (Misfits IsQuoted) text_at
 unfolding text_at
 text_reads = word_reads IsQuoted _ (quoted_front IsQuoted text_in text_quotes)
 
-pattern_reads : Reads (λ units. Begins (IsQuotedPattern units)) (Misfits IsQuotedPattern) pattern_at
+pattern_reads : Reads HasQuotedPattern (Misfits IsQuotedPattern) pattern_at
 unfolding pattern_at
 pattern_reads = word_reads IsQuotedPattern _ (quoted_front IsQuotedPattern pattern_in pattern_quotes)
 
@@ -178,39 +178,53 @@ empty_reads : Reads (λ empty. Begins (IsEmpty empty)) (Misfits IsEmpty) empty_a
 unfolding empty_at
 empty_reads = word_reads IsEmpty _ (meaning_front IsEmpty empty_of empty_sound empty_full)
 
-succeeds_sound : (w : List ℕ) (value : Bool) → succeeds_of w ≡ Some value → DoesSucceed value w
-unfolding succeeds_of
-succeeds_sound w value e =
-    elim (one_sound (codes "ok") (codes "failed") true false w value e) [
+-- one of two words, for true or false
+flag_sound : (spelled : Bool → List ℕ) (w : List ℕ) (value : Bool) → flag_of spelled w ≡ Some value → w ≡ spelled value
+flag_sound spelled w value e =
+    elim (one_sound (spelled true) (spelled false) true false w value e) [
       | inl p ↦ rw (← p.1) p.0
       | inr p ↦ rw (← p.1) p.0
     ]
 
-succeeds_full : (w : List ℕ) (value : Bool) → DoesSucceed value w → IsWord w × (succeeds_of w ≡ Some value)
-unfolding succeeds_of
-succeeds_full w true is = rw is (record { some = lit< tt; whole = refl }, refl)
-succeeds_full w false is = rw is (record { some = lit< tt; whole = refl }, refl)
+flag_full : (spelled : Bool → List ℕ) → AreFlags spelled → (w : List ℕ) (value : Bool) → w ≡ spelled value
+    → IsWord w × (flag_of spelled w ≡ Some value)
+flag_full spelled flags w value is = rw is (flags.is value, flags.means value)
+
+flag_reads : (spelled : Bool → List ℕ) → AreFlags spelled
+    → Reads (λ value. Begins (λ w. w ≡ spelled value)) (Misfits (λ value w. w ≡ spelled value)) (word_at (flag_of spelled))
+flag_reads spelled flags =
+    word_reads (λ value w. w ≡ spelled value) _
+    (meaning_front (λ value w. w ≡ spelled value) (flag_of spelled) (flag_sound spelled) (flag_full spelled flags))
 
 succeeds_reads : Reads (λ ok. Begins (DoesSucceed ok)) (Misfits DoesSucceed) succeeds_at
-unfolding succeeds_at
-succeeds_reads = word_reads DoesSucceed _ (meaning_front DoesSucceed succeeds_of succeeds_sound succeeds_full)
-
-closes_sound : (w : List ℕ) (value : Bool) → closes_of w ≡ Some value → DoesClose value w
-unfolding closes_of
-closes_sound w value e =
-    elim (one_sound (codes "closed") (codes "open") true false w value e) [
-      | inl p ↦ rw (← p.1) p.0
-      | inr p ↦ rw (← p.1) p.0
-    ]
-
-closes_full : (w : List ℕ) (value : Bool) → DoesClose value w → IsWord w × (closes_of w ≡ Some value)
-unfolding closes_of
-closes_full w true is = rw is (record { some = lit< tt; whole = refl }, refl)
-closes_full w false is = rw is (record { some = lit< tt; whole = refl }, refl)
+unfolding succeeds_at succeeds_of
+succeeds_reads = flag_reads succeeds_word success_flags
 
 closes_reads : Reads (λ closed. Begins (DoesClose closed)) (Misfits DoesClose) closes_at
-unfolding closes_at
-closes_reads = word_reads DoesClose _ (meaning_front DoesClose closes_of closes_sound closes_full)
+unfolding closes_at closes_of
+closes_reads = flag_reads closes_word closed_flags
+
+-- ---- queries
+
+folds_reads : Reads (λ fold_case. Begins (IsFold fold_case)) (Misfits IsFold) folds_at
+unfolding folds_at folds_of
+folds_reads = flag_reads fold_word fold_flags
+
+whole_reads : Reads (λ whole. Begins (IsWhole whole)) (Misfits IsWhole) whole_at
+unfolding whole_at whole_of
+whole_reads = flag_reads whole_word whole_flags
+
+how_reads : Reads HasHow FailsHow how_at
+unfolding how_at
+how_reads =
+    then_reads (λ fold_case whole. (fold_case, whole)) (λ fold_case. Begins (IsFold fold_case)) (Misfits IsFold) folds_at (λ fold_case whole. Begins (IsWhole whole)) (λ fold_case. Misfits IsWhole) (λ fold_case. whole_at)
+    folds_reads (λ fold_case. whole_reads)
+
+query_reads : Reads HasQuery FailsQuery query_at
+unfolding query_at
+query_reads =
+    then_reads query_of HasQuotedPattern (Misfits IsQuotedPattern) pattern_at (λ pattern. HasHow) (λ pattern. FailsHow) (λ pattern. how_at)
+    pattern_reads (λ pattern. how_reads)
 
 -- ---- numbers or `none`
 
@@ -590,7 +604,7 @@ alone_reads rule = record {
 
 after_reads : (limits : Limits) (name : RuleName)
     → Reads (HasRuleAfter limits name) (FailsRuleAfter limits name) (rule_after limits name)
-after_reads limits ForWord = made_reads {A = List ℕ} (λ units. rules.Word units) (λ units. Begins (IsQuotedPattern units)) (Misfits IsQuotedPattern) pattern_at pattern_reads
+after_reads limits ForWord = made_reads {A = List ℕ} (λ units. rules.Word units) HasQuotedPattern (Misfits IsQuotedPattern) pattern_at pattern_reads
 after_reads limits ForBlanks = alone_reads rules.Blanks
 after_reads limits ForLong = made_reads {A = ℕ} (λ n. rules.Long n) (HasNumber limits AColumn) (FailsNumber limits AColumn) (number_at limits AColumn) (number_reads limits AColumn)
 after_reads limits ForPairs = alone_reads rules.Pairs
@@ -613,6 +627,7 @@ field_reads limits OrInvalid = or_invalid_reads limits
 field_reads limits Spans = spans_reads limits
 field_reads limits AText = text_reads
 field_reads limits APattern = pattern_reads
+field_reads limits AQuery = query_reads
 field_reads limits ARule = rule_reads limits
 field_reads limits Expands = expand_reads
 field_reads limits Empties = empty_reads

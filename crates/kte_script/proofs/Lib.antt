@@ -16,5 +16,6 @@ pub mod LineInWordsLemmas
 pub mod WithinLemmas
 pub mod FoundLemmas
 pub mod ScriptInWordsLemmas
+pub mod ScriptSpelledLemmas
 pub mod CallerLemmas
 mod Examples

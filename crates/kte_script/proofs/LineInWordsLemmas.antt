@@ -1,10 +1,14 @@
 -- A line in words: the word of a row, its fields, and nothing more.
-use Rattle.std.proofs.Common.{◌≡◌, ◌↔◌, ℕ, true, false, cond, nat_eq, List, [], ◌∷◌, ◌++◌, length, Some, Result, Ok, Err, refl, sym, ap, ◌∙◌, subst, append-nil, arith, inl, inr, lit<}
+use Rattle.std.proofs.Common.{◌≡◌, ◌↔◌, ℕ, Bool, true, false, cond, nat_eq, nat_lt, ◌&&◌, List, [], ◌∷◌, ◌++◌, length, Some, Result, Ok, Err, refl, sym, ap, ◌∙◌, subst, append-nil, arith, inl, inr}
+use Rattle.std.specs.Prelude.{not}
 use Rattle.std.specs.List.{list_all}
+use Rattle.std.specs.Str.{bytes_eq}
+use Rattle.std.proofs.lemmas.Bool.{and_parts, ltb-true}
 use Rattle.std.proofs.lemmas.Bool.Decides.{nat_tests}
+use Rattle.std.proofs.lemmas.Slice.Eq.{bytes_eq-Decides}
 use Rattle.kte_command.specs.declared.command.Command.{Command}
 use Rattle.kte_script.specs.declared.limits.Limits.TheVariants.{Script}
-use Rattle.kte_script.specs.Words.{is_space, skip}
+use Rattle.kte_script.specs.Words.{is_space, is_other, skip}
 use Rattle.kte_script.specs.Fields.{Reading, ◌>>=◌, word_at}
 use Rattle.kte_script.specs.Table.{Values, Row, table, row_in}
 use Rattle.kte_script.specs.Reading.{read_fields, row_at, front_at, end_at, command_at}
@@ -28,30 +32,46 @@ row_sound {A} (first ∷ rows) w row e =
           (inr p.0, p.1)
     ]
 
-row_listed : (row : Row Command) → IsOneOf table row → IsWord row.word × (row_in table row.word ≡ Some row)
-row_listed row (inl e) = rw e (record { some = lit< tt; whole = refl }, refl)
-row_listed row (inr (inl e)) = rw e (record { some = lit< tt; whole = refl }, refl)
-row_listed row (inr (inr (inl e))) = rw e (record { some = lit< tt; whole = refl }, refl)
-row_listed row (inr (inr (inr (inl e)))) = rw e (record { some = lit< tt; whole = refl }, refl)
-row_listed row (inr (inr (inr (inr (inl e))))) = rw e (record { some = lit< tt; whole = refl }, refl)
-row_listed row (inr (inr (inr (inr (inr (inl e)))))) = rw e (record { some = lit< tt; whole = refl }, refl)
-row_listed row (inr (inr (inr (inr (inr (inr (inl e))))))) = rw e (record { some = lit< tt; whole = refl }, refl)
-row_listed row (inr (inr (inr (inr (inr (inr (inr (inl e)))))))) = rw e (record { some = lit< tt; whole = refl }, refl)
-row_listed row (inr (inr (inr (inr (inr (inr (inr (inr (inl e))))))))) = rw e (record { some = lit< tt; whole = refl }, refl)
-row_listed row (inr (inr (inr (inr (inr (inr (inr (inr (inr (inl e)))))))))) = rw e (record { some = lit< tt; whole = refl }, refl)
-row_listed row (inr (inr (inr (inr (inr (inr (inr (inr (inr (inr (inl e))))))))))) = rw e (record { some = lit< tt; whole = refl }, refl)
-row_listed row (inr (inr (inr (inr (inr (inr (inr (inr (inr (inr (inr (inl e)))))))))))) = rw e (record { some = lit< tt; whole = refl }, refl)
-row_listed row (inr (inr (inr (inr (inr (inr (inr (inr (inr (inr (inr (inr (inl e))))))))))))) = rw e (record { some = lit< tt; whole = refl }, refl)
-row_listed row (inr (inr (inr (inr (inr (inr (inr (inr (inr (inr (inr (inr (inr (inl e)))))))))))))) = rw e (record { some = lit< tt; whole = refl }, refl)
-row_listed row (inr (inr (inr (inr (inr (inr (inr (inr (inr (inr (inr (inr (inr (inr (inl e))))))))))))))) = rw e (record { some = lit< tt; whole = refl }, refl)
-row_listed row (inr (inr (inr (inr (inr (inr (inr (inr (inr (inr (inr (inr (inr (inr (inr (inl e)))))))))))))))) = rw e (record { some = lit< tt; whole = refl }, refl)
-row_listed row (inr (inr (inr (inr (inr (inr (inr (inr (inr (inr (inr (inr (inr (inr (inr (inr (inl e))))))))))))))))) = rw e (record { some = lit< tt; whole = refl }, refl)
-row_listed row (inr (inr (inr (inr (inr (inr (inr (inr (inr (inr (inr (inr (inr (inr (inr (inr (inr (inl e)))))))))))))))))) = rw e (record { some = lit< tt; whole = refl }, refl)
-row_listed row (inr (inr (inr (inr (inr (inr (inr (inr (inr (inr (inr (inr (inr (inr (inr (inr (inr (inr (inl e))))))))))))))))))) = rw e (record { some = lit< tt; whole = refl }, refl)
-row_listed row (inr (inr (inr (inr (inr (inr (inr (inr (inr (inr (inr (inr (inr (inr (inr (inr (inr (inr (inr none))))))))))))))))))) = absurd none
+-- no row has this word
+abbrev is_new : {A : Type 0} → List (Row A) → List ℕ → Bool
+is_new [] w = true
+is_new (row ∷ rows) w = not (bytes_eq row.word w) && is_new rows w
+
+-- each row has a word, and no other row has it
+abbrev are_apart : {A : Type 0} → List (Row A) → Bool
+are_apart [] = true
+are_apart (row ∷ rows) =
+    nat_lt 0 (length row.word) && list_all is_other row.word && is_new rows row.word && are_apart rows
+
+not_so : (b : Bool) → not b ≡ true → b ≡ false
+not_so true e = absurd cc
+not_so false e = refl
+
+other_word : {A : Type 0} (rows : List (Row A)) (row : Row A) (w : List ℕ) → IsOneOf rows row → is_new rows w ≡ true
+    → bytes_eq row.word w ≡ false
+other_word [] row w is h = absurd is
+other_word (first ∷ rows) row w (inl e) h =
+    rw e (not_so (bytes_eq first.word w) (and_parts (not (bytes_eq first.word w)) (is_new rows w) h).0)
+other_word (first ∷ rows) row w (inr is) h =
+    other_word rows row w is (and_parts (not (bytes_eq first.word w)) (is_new rows w) h).1
+
+-- a row is found by its word
+row_found : {A : Type 0} (rows : List (Row A)) (row : Row A) → IsOneOf rows row → are_apart rows ≡ true
+    → IsWord row.word × (row_in rows row.word ≡ Some row)
+row_found [] row is h = absurd is
+row_found (first ∷ rows) row (inl e) h =
+    let p = and_parts (nat_lt 0 (length first.word) && list_all is_other first.word && is_new rows first.word) (are_apart rows) h in
+    let q = and_parts (nat_lt 0 (length first.word) && list_all is_other first.word) (is_new rows first.word) p.0 in
+    let r = and_parts (nat_lt 0 (length first.word)) (list_all is_other first.word) q.0 in
+    rw (e, (bytes_eq-Decides first.word first.word).1 refl) (record { some = ltb-true _ _ r.0; whole = r.1 }, refl)
+row_found (first ∷ rows) row (inr is) h =
+    let p = and_parts (nat_lt 0 (length first.word) && list_all is_other first.word && is_new rows first.word) (are_apart rows) h in
+    let q = and_parts (nat_lt 0 (length first.word) && list_all is_other first.word) (is_new rows first.word) p.0 in
+    let later = row_found rows row is p.1 in
+    (later.0, rw (other_word rows row first.word is q.1) later.1)
 
 row_full : (w : List ℕ) (row : Row Command) → IsWordOf row w → IsWord w × (row_in table w ≡ Some row)
-row_full w row is = rw is.1 (row_listed row is.0)
+row_full w row is = rw is.1 (row_found table row is.0 refl)
 
 word_of_row_reads : Reads (λ row. Begins (IsWordOf row)) (Misfits IsWordOf) (word_at (row_in table))
 word_of_row_reads = word_reads IsWordOf _ (meaning_front IsWordOf (row_in table) (row_sound table) row_full)

@@ -11,17 +11,18 @@ use Rattle.kte_place.specs.declared.span.Expand.{Expand}
 use Rattle.kte_place.specs.declared.span.Empty.{Empty}
 use Rattle.kte_place.specs.declared.span.Empty.TheVariants.{Allow, Void}
 use Rattle.kte_place.specs.Ends.{Ends}
+use Rattle.kte_search.specs.declared.query.Query.{Query}
 use Rattle.kte_edit.specs.declared.change.Change.TheVariants as Change
 use Rattle.kte_command.specs.declared.command.Command.{Command}
-use Rattle.kte_command.specs.declared.command.Command.TheVariants.{Edit, Begin, End, Undo, Redo, MakeRange, SetRange, DropRange, ShowRange, Lock, Unlock, Land, Check, Sync, Save}
+use Rattle.kte_command.specs.declared.command.Command.TheVariants.{Edit, Begin, End, Undo, Redo, MakeRange, SetRange, DropRange, ShowRange, Lock, Unlock, Land, Fold, Unfold, Find, FindBack, All as AllMatches, Check, Sync, Save}
 use Rattle.kte_script.specs.declared.limits.Limits.{Limits}
 use Rattle.kte_script.specs.declared.limits.Limits.TheVariants.{Script}
 use Rattle.kte_script.specs.Words.{skip, word, ends_here}
 use Rattle.kte_script.specs.Strings.{spell_text}
-use Rattle.kte_script.specs.Fields.{Count, ALine, AColumn, most, Kind, Number, OrNone, APlace, ASpan, OrInvalid, Spans, AText, APattern, ARule, Expands, Empties, Succeeds, Closes, Value, Reading, read_field, spell_field, spell_number, spell_or_none, spell_place, spell_span, spell_or_invalid, spell_spans, spell_pattern, spell_rule, number_at, or_none_of, or_none_at, place_at, span_at, or_invalid_at, starts_number, spans_from, spans_at, ForWord, ForBlanks, ForLong, ForPairs, ForRepeat, rule_name, rule_at, expand_word, expand_of, expand_at, empty_of, empty_at, succeeds_of, succeeds_at, closes_of, closes_at}
+use Rattle.kte_script.specs.Fields.{Count, ALine, AColumn, most, Kind, Number, OrNone, APlace, ASpan, OrInvalid, Spans, AText, APattern, AQuery, ARule, Expands, Empties, Succeeds, Closes, Value, Reading, read_field, spell_field, spell_number, spell_or_none, spell_place, spell_span, spell_or_invalid, spell_spans, spell_pattern, spell_query, spell_rule, number_at, or_none_of, or_none_at, place_at, span_at, or_invalid_at, starts_number, spans_from, spans_at, one_of, fold_word, whole_word, folds_of, folds_at, whole_of, whole_at, how_at, query_at, ForWord, ForBlanks, ForLong, ForPairs, ForRepeat, rule_name, rule_at, expand_word, expand_of, expand_at, empty_of, empty_at, succeeds_word, succeeds_of, succeeds_at, closes_word, closes_of, closes_at, word_at, spell_folds, spell_whole}
 use Rattle.kte_script.specs.Table.{Values, Row, Filled, filled, table, row_in, spell_fields, spell_filled, spelling}
 use Rattle.kte_script.specs.Reading.{read_fields, row_at, front_at, end_at, command_at}
-use Rattle.kte_script.specs.Limits.{IsPlace, IsSpan, IsRule, Fits, AllFit, MayPrecede, ArePartedBy, IsWithin, InLimits}
+use Rattle.kte_script.specs.Limits.{IsPlace, IsSpan, IsPattern, IsRule, Fits, AllFit, MayPrecede, ArePartedBy, IsWithin, InLimits}
 use Rattle.kte_script.proofs.AgainLemmas.{IsWord, meant_again, taken, word-of, behind-of, skip-word, skip-first, limited, decimal_word, decimal_means, number_again, number_first, number_no_word}
 use Rattle.kte_script.proofs.QuotedLemmas.{text_again, pattern_again}
 
@@ -147,17 +148,77 @@ unfolding empty_at empty_of
 empty_again Allow rest e = meant_again empty_of Allow (codes "allow") rest (record { some = lit< tt; whole = refl }) refl e
 empty_again Void rest e = meant_again empty_of Void (codes "void") rest (record { some = lit< tt; whole = refl }) refl e
 
+-- what the words for true and false mean
+abbrev pub flag_of : (Bool → List ℕ) → List ℕ → Option Bool
+flag_of spelled w = one_of (spelled true) true (spelled false) false w
+
+-- one word for true and another for false
+pub record AreFlags (spelled : Bool → List ℕ) : Type 0 where
+  pub is : (flag : Bool) → IsWord (spelled flag)
+  pub means : (flag : Bool) → flag_of spelled (spelled flag) ≡ Some flag
+
+by_flag : (P : Bool → Type 0) → P true → P false → (flag : Bool) → P flag
+by_flag P on off true = on
+by_flag P on off false = off
+
+are_flags : (spelled : Bool → List ℕ) → IsWord (spelled true) → IsWord (spelled false)
+    → flag_of spelled (spelled true) ≡ Some true → flag_of spelled (spelled false) ≡ Some false → AreFlags spelled
+are_flags spelled on off means_on means_off = record {
+  is = by_flag (λ flag. IsWord (spelled flag)) on off;
+  means = by_flag (λ flag. flag_of spelled (spelled flag) ≡ Some flag) means_on means_off;
+}
+
+pub success_flags : AreFlags succeeds_word
+success_flags = are_flags succeeds_word (record { some = lit< tt; whole = refl }) (record { some = lit< tt; whole = refl }) refl refl
+
+pub closed_flags : AreFlags closes_word
+closed_flags = are_flags closes_word (record { some = lit< tt; whole = refl }) (record { some = lit< tt; whole = refl }) refl refl
+
+pub fold_flags : AreFlags fold_word
+fold_flags = are_flags fold_word (record { some = lit< tt; whole = refl }) (record { some = lit< tt; whole = refl }) refl refl
+
+pub whole_flags : AreFlags whole_word
+whole_flags = are_flags whole_word (record { some = lit< tt; whole = refl }) (record { some = lit< tt; whole = refl }) refl refl
+
+flag_again : (spelled : Bool → List ℕ) → AreFlags spelled → (flag : Bool) (rest : List ℕ) → ends_here rest ≡ true
+    → word_at (flag_of spelled) (32 ∷ spelled flag ++ rest) ≡ Ok (flag, rest)
+flag_again spelled flags flag rest e =
+    meant_again (flag_of spelled) flag (spelled flag) rest (flags.is flag) (flags.means flag) e
+
 succeeds_again : (ok : Bool) (rest : List ℕ) → ends_here rest ≡ true
     → succeeds_at (spell_field Succeeds ok ++ rest) ≡ Ok (ok, rest)
 unfolding succeeds_at succeeds_of
-succeeds_again true rest e = meant_again succeeds_of true (codes "ok") rest (record { some = lit< tt; whole = refl }) refl e
-succeeds_again false rest e = meant_again succeeds_of false (codes "failed") rest (record { some = lit< tt; whole = refl }) refl e
+succeeds_again ok rest e = flag_again succeeds_word success_flags ok rest e
 
 closes_again : (closed : Bool) (rest : List ℕ) → ends_here rest ≡ true
     → closes_at (spell_field Closes closed ++ rest) ≡ Ok (closed, rest)
 unfolding closes_at closes_of
-closes_again true rest e = meant_again closes_of true (codes "closed") rest (record { some = lit< tt; whole = refl }) refl e
-closes_again false rest e = meant_again closes_of false (codes "open") rest (record { some = lit< tt; whole = refl }) refl e
+closes_again closed rest e = flag_again closes_word closed_flags closed rest e
+
+folds_again : (fold_case : Bool) (rest : List ℕ) → ends_here rest ≡ true
+    → folds_at (spell_folds fold_case ++ rest) ≡ Ok (fold_case, rest)
+unfolding folds_at folds_of
+folds_again fold_case rest e = flag_again fold_word fold_flags fold_case rest e
+
+whole_again : (whole : Bool) (rest : List ℕ) → ends_here rest ≡ true
+    → whole_at (spell_whole whole ++ rest) ≡ Ok (whole, rest)
+unfolding whole_at whole_of
+whole_again whole rest e = flag_again whole_word whole_flags whole rest e
+
+query_again : (query : Query) (rest : List ℕ) → IsPattern query.pattern → ends_here rest ≡ true
+    → query_at (spell_query query ++ rest) ≡ Ok (query, rest)
+unfolding query_at how_at
+query_again query rest fits e =
+    let pattern = pattern_again query.pattern (spell_folds query.fold_case ++ (spell_whole query.whole ++ rest)) fits refl in
+    let fold_case = folds_again query.fold_case (spell_whole query.whole ++ rest) refl in
+    let whole = whole_again query.whole rest e in
+    rw (
+      append_assoc (spell_pattern query.pattern) (spell_folds query.fold_case ++ spell_whole query.whole) rest,
+      append_assoc (spell_folds query.fold_case) (spell_whole query.whole) rest,
+      pattern,
+      fold_case,
+      whole,
+    ) refl
 
 rule_again : (limits : Limits) (rule : Rule) (rest : List ℕ) → IsRule limits rule → ends_here rest ≡ true
     → rule_at limits (spell_rule rule ++ rest) ≡ Ok (rule, rest)
@@ -187,6 +248,7 @@ field_again limits OrInvalid span rest fits may e = or_invalid_again limits span
 field_again limits Spans spans rest fits may e = spans_again limits spans rest fits e may
 field_again limits AText text rest fits may e = text_again text rest fits e
 field_again limits APattern units rest fits may e = pattern_again units rest fits e
+field_again limits AQuery query rest fits may e = query_again query rest fits e
 field_again limits ARule rule rest fits may e = rule_again limits rule rest fits e
 field_again limits Expands x rest fits may e = expand_again x rest e
 field_again limits Empties x rest fits may e = empty_again x rest e
@@ -220,6 +282,7 @@ field_starts OrInvalid span rest e = or_invalid_starts span rest
 field_starts Spans spans rest e = spans_start spans rest e
 field_starts AText text rest e = refl
 field_starts APattern units rest e = refl
+field_starts AQuery query rest e = refl
 field_starts ARule rule rest e = rule_starts rule rest
 field_starts Expands x rest e = refl
 field_starts Empties x rest e = refl
@@ -308,6 +371,11 @@ listed (ShowRange id) = record { is = record { some = lit< tt; whole = refl }; t
 listed Lock = record { is = record { some = lit< tt; whole = refl }; there = refl; made = refl; parted = λ rest. tt }
 listed (Unlock revision) = record { is = record { some = lit< tt; whole = refl }; there = refl; made = refl; parted = λ rest. (tt, tt) }
 listed (Land revision span expand empty) = record { is = record { some = lit< tt; whole = refl }; there = refl; made = refl; parted = λ rest. (tt, (tt, (tt, (tt, tt)))) }
+listed (Fold span) = record { is = record { some = lit< tt; whole = refl }; there = refl; made = refl; parted = λ rest. (tt, tt) }
+listed (Unfold id) = record { is = record { some = lit< tt; whole = refl }; there = refl; made = refl; parted = λ rest. (tt, tt) }
+listed (Find from query) = record { is = record { some = lit< tt; whole = refl }; there = refl; made = refl; parted = λ rest. (tt, (tt, tt)) }
+listed (FindBack before query) = record { is = record { some = lit< tt; whole = refl }; there = refl; made = refl; parted = λ rest. (tt, (tt, tt)) }
+listed (AllMatches query) = record { is = record { some = lit< tt; whole = refl }; there = refl; made = refl; parted = λ rest. (tt, tt) }
 listed (Check rule) = record { is = record { some = lit< tt; whole = refl }; there = refl; made = refl; parted = λ rest. (tt, tt) }
 listed Sync = record { is = record { some = lit< tt; whole = refl }; there = refl; made = refl; parted = λ rest. tt }
 listed Save = record { is = record { some = lit< tt; whole = refl }; there = refl; made = refl; parted = λ rest. tt }

@@ -26,6 +26,9 @@ keeps old s mid new e h =
 pub two_parts : (old s t a b : List ℕ) → a ≡ old ++ s → b ≡ a ++ t → b ≡ old ++ (s ++ t)
 two_parts old s t a b p q = q ∙ ap (λ (xs : List ℕ). xs ++ t) p ∙ append_assoc old s t
 
+pub three_parts : (old s t u a b c : List ℕ) → a ≡ old ++ s → b ≡ a ++ t → c ≡ b ++ u → c ≡ old ++ (s ++ (t ++ u))
+three_parts old s t u a b c p q r = two_parts old s (t ++ u) a c p (two_parts a t u b c q r)
+
 -- a word and the fields after it
 pub one_field : (old w f a b : List ℕ) → a ≡ old ++ w → b ≡ a ++ f → b ≡ old ++ (w ++ (f ++ []))
 one_field old w f a b p q = q ∙ ap (λ (xs : List ℕ). xs ++ f) p ∙ simp (append_assoc, append-nil)

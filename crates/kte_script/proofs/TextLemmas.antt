@@ -21,14 +21,15 @@ use Rattle.kte_place.specs.declared.place.Place.{Place}
 use Rattle.kte_place.specs.declared.span.Empty.{Empty}
 use Rattle.kte_place.specs.declared.span.Empty.TheVariants.{Allow, Void}
 use Rattle.kte_place.specs.Ends.{Ends}
+use Rattle.kte_search.specs.declared.query.Query.{Query}
 use Rattle.kte_edit.specs.declared.change.Change.TheVariants as Change
 use Rattle.kte_command.specs.declared.command.Command.{Command}
-use Rattle.kte_command.specs.declared.command.Command.TheVariants.{Edit, Begin, End, Undo, Redo, MakeRange, SetRange, DropRange, ShowRange, Lock, Unlock, Land, Check, Sync, Save}
+use Rattle.kte_command.specs.declared.command.Command.TheVariants.{Edit, Begin, End, Undo, Redo, MakeRange, SetRange, DropRange, ShowRange, Lock, Unlock, Land, Fold, Unfold, Find, FindBack, All as AllMatches, Check, Sync, Save}
 use Rattle.kte_script.specs.declared.limits.Limits.{Limits}
 use Rattle.kte_script.specs.declared.limits.Limits.TheVariants.{Script}
 use Rattle.kte_script.specs.Words.{skip}
 use Rattle.kte_script.specs.Strings.{hex_digit, spell_byte, utf8_of_text, spell_text}
-use Rattle.kte_script.specs.Fields.{Count, ALine, AColumn, most, Kind, Number, OrNone, APlace, ASpan, OrInvalid, Spans, AText, APattern, ARule, Expands, Empties, Succeeds, Closes, Value, spell_field, spell_number, spell_or_none, spell_place, spell_span, spell_or_invalid, spell_spans, spell_pattern, spell_rule, expand_word, empty_word, succeeds_word, closes_word}
+use Rattle.kte_script.specs.Fields.{Count, ALine, AColumn, most, Kind, Number, OrNone, APlace, ASpan, OrInvalid, Spans, AText, APattern, AQuery, ARule, Expands, Empties, Succeeds, Closes, Value, spell_field, spell_number, spell_or_none, spell_place, spell_span, spell_or_invalid, spell_spans, spell_pattern, spell_folds, spell_whole, spell_query, spell_rule, expand_word, empty_word, succeeds_word, closes_word}
 use Rattle.kte_script.specs.Table.{Values, filled, spell_fields, spelling}
 use Rattle.kte_script.specs.Limits.{IsPlace, IsSpan, IsPattern, IsRule, Fits, AllFit, IsWithin, InLimits}
 use Rattle.kte_script.specs.Script.{Says, is_skipped, meaning}
@@ -185,6 +186,20 @@ spans_text limits (span ∷ spans) all =
 pattern_text : (units : List ℕ) → IsPattern units → IsUtf8 (spell_pattern units)
 pattern_text units fits = text_text (units ∷ []) (All-cons IsLine units [] fits.whole (All-nil IsLine))
 
+folds_text : (fold_case : Bool) → IsUtf8 (spell_folds fold_case)
+folds_text true = low_text (codes " nocase") refl
+folds_text false = low_text (codes " case") refl
+
+whole_text : (whole : Bool) → IsUtf8 (spell_whole whole)
+whole_text true = low_text (codes " word") refl
+whole_text false = low_text (codes " part") refl
+
+query_text : (query : Query) → IsPattern query.pattern → IsUtf8 (spell_query query)
+query_text query fits =
+    IsUtf8-append (spell_pattern query.pattern) (spell_folds query.fold_case ++ spell_whole query.whole)
+    (pattern_text query.pattern fits)
+    (IsUtf8-append (spell_folds query.fold_case) (spell_whole query.whole) (folds_text query.fold_case) (whole_text query.whole))
+
 rule_text : (limits : Limits) (rule : Rule) → IsRule limits rule → IsUtf8 (spell_rule rule)
 rule_text limits (rules.Word units) fits =
     IsUtf8-append (codes " word") (spell_pattern units) (low_text (codes " word") refl) (pattern_text units fits)
@@ -221,6 +236,7 @@ field_text limits OrInvalid span fits = or_invalid_text limits span fits
 field_text limits Spans spans fits = spans_text limits spans fits
 field_text limits AText text fits = text_text text fits.whole
 field_text limits APattern units fits = pattern_text units fits
+field_text limits AQuery query fits = query_text query fits
 field_text limits ARule rule fits = rule_text limits rule fits
 field_text limits Expands expand fits = expand_text expand.left expand.right
 field_text limits Empties empty fits = empty_text empty
@@ -253,6 +269,11 @@ word_text (ShowRange id) = low_text (codes "where") refl
 word_text Lock = low_text (codes "lock") refl
 word_text (Unlock revision) = low_text (codes "unlock") refl
 word_text (Land revision span expand empty) = low_text (codes "land") refl
+word_text (Fold span) = low_text (codes "fold") refl
+word_text (Unfold id) = low_text (codes "unfold") refl
+word_text (Find from query) = low_text (codes "find") refl
+word_text (FindBack before query) = low_text (codes "findback") refl
+word_text (AllMatches query) = low_text (codes "all") refl
 word_text (Check rule) = low_text (codes "check") refl
 word_text Sync = low_text (codes "sync") refl
 word_text Save = low_text (codes "save") refl
@@ -274,6 +295,11 @@ no_comment (ShowRange id) rest = refl
 no_comment Lock rest = refl
 no_comment (Unlock revision) rest = refl
 no_comment (Land revision span expand empty) rest = refl
+no_comment (Fold span) rest = refl
+no_comment (Unfold id) rest = refl
+no_comment (Find from query) rest = refl
+no_comment (FindBack before query) rest = refl
+no_comment (AllMatches query) rest = refl
 no_comment (Check rule) rest = refl
 no_comment Sync rest = refl
 no_comment Save rest = refl

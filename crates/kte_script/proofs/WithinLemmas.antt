@@ -13,13 +13,13 @@ use Rattle.kte_place.specs.Place.{is_at_or_before}
 use Rattle.kte_place.specs.Span.{between}
 use Rattle.kte_command.specs.Commands.{InRange}
 use Rattle.kte_command.specs.declared.command.Command.{Command}
-use Rattle.kte_command.specs.declared.command.Command.TheVariants.{Edit, Begin, End, Undo, Redo, MakeRange, SetRange, DropRange, ShowRange, Lock, Unlock, Land, Check, Sync, Save}
+use Rattle.kte_command.specs.declared.command.Command.TheVariants.{Edit, Begin, End, Undo, Redo, MakeRange, SetRange, DropRange, ShowRange, Lock, Unlock, Land, Fold, Unfold, Find, FindBack, All as AllMatches, Check, Sync, Save}
 use Rattle.kte_script.specs.declared.fault.ScriptFault.{ScriptFault}
 use Rattle.kte_script.specs.declared.fault.ScriptFault.TheVariants as faults
 use Rattle.kte_script.specs.declared.limits.Limits.{Limits}
 use Rattle.kte_script.specs.declared.limits.Limits.TheVariants.{Script}
 use Rattle.kte_script.specs.Words.{skip, word}
-use Rattle.kte_script.specs.Fields.{Count, Kind, Number, OrNone, APlace, ASpan, OrInvalid, Spans, AText, APattern, ARule, Expands, Empties, Succeeds, Closes, Value, RuleName, ForWord, ForBlanks, ForLong, ForPairs, ForRepeat, word_at}
+use Rattle.kte_script.specs.Fields.{Count, Kind, Number, OrNone, APlace, ASpan, OrInvalid, Spans, AText, APattern, AQuery, ARule, Expands, Empties, Succeeds, Closes, Value, RuleName, ForWord, ForBlanks, ForLong, ForPairs, ForRepeat, word_at}
 use Rattle.kte_script.specs.Table.{Values, Row, table, row_in}
 use Rattle.kte_script.specs.Reading.{read_fields, row_at, front_at, command_at}
 use Rattle.kte_script.specs.Limits.{IsPlace, IsSpan, IsRule, Fits, AllFit, IsWithin, InLimits}
@@ -88,6 +88,7 @@ field_fits limits OrInvalid span bytes rest h = or_invalid_fits limits span byte
 field_fits limits Spans spans bytes rest h = some_fit limits spans bytes rest h.0
 field_fits limits AText text bytes rest h = h.is.text
 field_fits limits APattern units bytes rest h = h.is.line
+field_fits limits AQuery query bytes rest h = rw h.joined h.front.is.line
 field_fits limits ARule rule bytes rest h = rule_fits limits rule bytes rest h
 field_fits limits Expands expand bytes rest h = tt
 field_fits limits Empties empty bytes rest h = tt
@@ -104,27 +105,21 @@ fields_fit limits (kind ∷ kinds) values bytes rest h =
 abbrev Refilled : Limits → Row Command → Type 0
 Refilled limits row = (values : Values row.kinds) → AllFit limits row.kinds values → IsWithin limits (row.make values)
 
+-- this holds of each of these rows
+abbrev OfEach : (Row Command → Type 0) → List (Row Command) → Type 0
+OfEach P [] = Unit {0}
+OfEach P (row ∷ rows) = P row × OfEach P rows
+
+of_each : (P : Row Command → Type 0) (rows : List (Row Command)) (row : Row Command) → IsOneOf rows row → OfEach P rows → P row
+of_each P [] row is all = absurd is
+of_each P (first ∷ rows) row (inl e) all = subst P (sym e) all.0
+of_each P (first ∷ rows) row (inr is) all = of_each P rows row is all.1
+
+each_refilled : (limits : Limits) → OfEach (Refilled limits) table
+each_refilled limits = search arith
+
 refilled : (limits : Limits) (row : Row Command) → IsOneOf table row → Refilled limits row
-refilled limits row (inl e) = subst (Refilled limits) (sym e) (λ values fits. fits)
-refilled limits row (inr (inl e)) = subst (Refilled limits) (sym e) (λ values fits. fits)
-refilled limits row (inr (inr (inl e))) = subst (Refilled limits) (sym e) (λ values fits. fits)
-refilled limits row (inr (inr (inr (inl e)))) = subst (Refilled limits) (sym e) (λ values fits. fits)
-refilled limits row (inr (inr (inr (inr (inl e))))) = subst (Refilled limits) (sym e) (λ values fits. fits)
-refilled limits row (inr (inr (inr (inr (inr (inl e)))))) = subst (Refilled limits) (sym e) (λ values fits. fits)
-refilled limits row (inr (inr (inr (inr (inr (inr (inl e))))))) = subst (Refilled limits) (sym e) (λ values fits. fits)
-refilled limits row (inr (inr (inr (inr (inr (inr (inr (inl e)))))))) = subst (Refilled limits) (sym e) (λ values fits. fits)
-refilled limits row (inr (inr (inr (inr (inr (inr (inr (inr (inl e))))))))) = subst (Refilled limits) (sym e) (λ values fits. fits)
-refilled limits row (inr (inr (inr (inr (inr (inr (inr (inr (inr (inl e)))))))))) = subst (Refilled limits) (sym e) (λ values fits. fits)
-refilled limits row (inr (inr (inr (inr (inr (inr (inr (inr (inr (inr (inl e))))))))))) = subst (Refilled limits) (sym e) (λ values fits. fits)
-refilled limits row (inr (inr (inr (inr (inr (inr (inr (inr (inr (inr (inr (inl e)))))))))))) = subst (Refilled limits) (sym e) (λ values fits. fits)
-refilled limits row (inr (inr (inr (inr (inr (inr (inr (inr (inr (inr (inr (inr (inl e))))))))))))) = subst (Refilled limits) (sym e) (λ values fits. fits)
-refilled limits row (inr (inr (inr (inr (inr (inr (inr (inr (inr (inr (inr (inr (inr (inl e)))))))))))))) = subst (Refilled limits) (sym e) (λ values fits. fits)
-refilled limits row (inr (inr (inr (inr (inr (inr (inr (inr (inr (inr (inr (inr (inr (inr (inl e))))))))))))))) = subst (Refilled limits) (sym e) (λ values fits. fits)
-refilled limits row (inr (inr (inr (inr (inr (inr (inr (inr (inr (inr (inr (inr (inr (inr (inr (inl e)))))))))))))))) = subst (Refilled limits) (sym e) (λ values fits. fits)
-refilled limits row (inr (inr (inr (inr (inr (inr (inr (inr (inr (inr (inr (inr (inr (inr (inr (inr (inl e))))))))))))))))) = subst (Refilled limits) (sym e) (λ values fits. fits)
-refilled limits row (inr (inr (inr (inr (inr (inr (inr (inr (inr (inr (inr (inr (inr (inr (inr (inr (inr (inl e)))))))))))))))))) = subst (Refilled limits) (sym e) (λ values fits. fits)
-refilled limits row (inr (inr (inr (inr (inr (inr (inr (inr (inr (inr (inr (inr (inr (inr (inr (inr (inr (inr (inl e))))))))))))))))))) = subst (Refilled limits) (sym e) (λ values fits. fits)
-refilled limits row (inr (inr (inr (inr (inr (inr (inr (inr (inr (inr (inr (inr (inr (inr (inr (inr (inr (inr (inr none))))))))))))))))))) = absurd none
+refilled limits row is = of_each (Refilled limits) table row is (each_refilled limits)
 
 -- what is read in front is within the limits
 pub front_within : (limits : Limits) (bytes : List ℕ) (command : Command) (rest : List ℕ)
@@ -237,6 +232,11 @@ in_range (ShowRange id) fits = tt
 in_range Lock fits = tt
 in_range (Unlock revision) fits = tt
 in_range (Land revision span expand empty) fits = span_reach span fits.1.0
+in_range (Fold span) fits = span_reach span fits.0
+in_range (Unfold id) fits = tt
+in_range (Find from query) fits = (fits.0, fits.1.0.some)
+in_range (FindBack before query) fits = (fits.0, fits.1.0.some)
+in_range (AllMatches query) fits = fits.0.some
 in_range (Check rule) fits = rule_word rule fits.0
 in_range Sync fits = tt
 in_range Save fits = tt

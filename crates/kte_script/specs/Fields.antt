@@ -16,6 +16,7 @@ use Rattle.kte_place.specs.declared.span.Empty.TheVariants.{Allow, Void}
 use Rattle.kte_place.specs.Ends.{Ends}
 use Rattle.kte_place.specs.Place.{at}
 use Rattle.kte_place.specs.Span.{between}
+use Rattle.kte_search.specs.declared.query.Query.{Query}
 use Rattle.kte_script.specs.declared.TheConstants.{MAX_NUMBER, MAX_DIGITS, MAX_JOURNAL_DIGITS}
 use Rattle.kte_script.specs.declared.limits.Limits.{Limits}
 use Rattle.kte_script.specs.declared.limits.Limits.TheVariants.{Script, Journal}
@@ -66,6 +67,8 @@ pub data Kind : Type 0 where
   AText : Kind
   -- a string, a line that is not empty
   APattern : Kind
+  -- `STRING CASE WHOLE`: a pattern, then `case` or `nocase`, then `word` or `part`
+  AQuery : Kind
   -- `word STRING`, `blanks`, `long N`, `pairs` or `repeat`
   ARule : Kind
   -- `none`, `left`, `right` or `both`
@@ -86,6 +89,7 @@ Value OrInvalid = Option Ends
 Value Spans = List Ends
 Value AText = List (List ℕ)
 Value APattern = List ℕ
+Value AQuery = Query
 Value ARule = Rule
 Value Expands = Expand
 Value Empties = Empty
@@ -181,6 +185,35 @@ text_at bytes = quoted_at text_in bytes
 unfoldable pub pattern_at : List ℕ → Reading (List ℕ)
 pattern_at bytes = quoted_at pattern_in bytes
 
+unfoldable pub folds_of : List ℕ → Option Bool
+folds_of word = one_of (codes "nocase") true (codes "case") false word
+
+unfoldable pub folds_at : List ℕ → Reading Bool
+folds_at bytes = word_at folds_of bytes
+
+unfoldable pub whole_of : List ℕ → Option Bool
+whole_of word = one_of (codes "word") true (codes "part") false word
+
+unfoldable pub whole_at : List ℕ → Reading Bool
+whole_at bytes = word_at whole_of bytes
+
+-- `CASE WHOLE`
+unfoldable pub how_at : List ℕ → Reading (Bool × Bool)
+how_at bytes = do
+  fold_case ← folds_at bytes
+  whole ← whole_at fold_case.1
+  Ok ((fold_case.0, whole.0), whole.1)
+
+-- a pattern, and how it is compared
+abbrev pub query_of : List ℕ → Bool × Bool → Query
+query_of pattern how = record { pattern = pattern; fold_case = how.0; whole = how.1 }
+
+unfoldable pub query_at : List ℕ → Reading Query
+query_at bytes = do
+  pattern ← pattern_at bytes
+  how ← how_at pattern.1
+  Ok (query_of pattern.0 how.0, how.1)
+
 -- how a rule begins
 pub data RuleName : Type 0 where
   ForWord : RuleName
@@ -258,6 +291,7 @@ read_field limits OrInvalid bytes = or_invalid_at limits bytes
 read_field limits Spans bytes = spans_at limits bytes
 read_field limits AText bytes = text_at bytes
 read_field limits APattern bytes = pattern_at bytes
+read_field limits AQuery bytes = query_at bytes
 read_field limits ARule bytes = rule_at limits bytes
 read_field limits Expands bytes = expand_at bytes
 read_field limits Empties bytes = empty_at bytes
@@ -288,6 +322,24 @@ spell_spans spans = flat_map spell_span spans
 
 abbrev pub spell_pattern : List ℕ → List ℕ
 spell_pattern line = spell_text (line ∷ [])
+
+abbrev pub fold_word : Bool → List ℕ
+fold_word true = codes "nocase"
+fold_word false = codes "case"
+
+abbrev pub spell_folds : Bool → List ℕ
+spell_folds fold_case = 32 ∷ fold_word fold_case
+
+abbrev pub whole_word : Bool → List ℕ
+whole_word true = codes "word"
+whole_word false = codes "part"
+
+abbrev pub spell_whole : Bool → List ℕ
+spell_whole whole = 32 ∷ whole_word whole
+
+abbrev pub spell_query : Query → List ℕ
+spell_query query =
+    spell_pattern query.pattern ++ (spell_folds query.fold_case ++ spell_whole query.whole)
 
 abbrev pub spell_rule : Rule → List ℕ
 spell_rule (rules.Word word) = codes " word" ++ spell_pattern word
@@ -335,6 +387,7 @@ spell_field OrInvalid span = spell_or_invalid span
 spell_field Spans spans = spell_spans spans
 spell_field AText text = spell_text text
 spell_field APattern line = spell_pattern line
+spell_field AQuery query = spell_query query
 spell_field ARule rule = spell_rule rule
 spell_field Expands expand = spell_expand expand
 spell_field Empties empty = spell_empty empty

@@ -14,12 +14,13 @@ use Rattle.kte_place.specs.declared.span.Empty.{Empty}
 use Rattle.kte_place.specs.Ends.{Ends}
 use Rattle.kte_place.specs.Place.{at}
 use Rattle.kte_place.specs.Span.{between}
+use Rattle.kte_search.specs.declared.query.Query.{Query}
 use Rattle.kte_command.specs.declared.command.Command.{Command}
 use Rattle.kte_script.specs.declared.limits.Limits.{Limits}
 use Rattle.kte_script.specs.declared.limits.Limits.TheVariants.{Script}
 use Rattle.kte_script.specs.Words.{is_space, is_other, ends_here}
 use Rattle.kte_script.specs.Strings.{is_plain, is_coded, hex_digit, utf8_of_text}
-use Rattle.kte_script.specs.Fields.{Count, ALine, AColumn, most, most_digits, Kind, Number, OrNone, APlace, ASpan, OrInvalid, Spans, AText, APattern, ARule, Expands, Empties, Succeeds, Closes, Value, starts_number, RuleName, ForWord, ForBlanks, ForLong, ForPairs, ForRepeat, rule_word, expand_word, empty_word, succeeds_word, closes_word}
+use Rattle.kte_script.specs.Fields.{Count, ALine, AColumn, most, most_digits, Kind, Number, OrNone, APlace, ASpan, OrInvalid, Spans, AText, APattern, AQuery, ARule, Expands, Empties, Succeeds, Closes, Value, starts_number, RuleName, ForWord, ForBlanks, ForLong, ForPairs, ForRepeat, rule_word, query_of, fold_word, whole_word, expand_word, empty_word, succeeds_word, closes_word}
 use Rattle.kte_script.specs.Table.{Values, Row, table}
 use Rattle.kte_script.specs.Limits.{IsPattern}
 
@@ -97,6 +98,12 @@ pub record IsQuoted (lines : List (List ℕ)) (word : List ℕ) : Type 0 where
 pub record IsQuotedPattern (units : List ℕ) (word : List ℕ) : Type 0 where
   pub line : IsPattern units
   pub string : IsString (utf8_of units) word
+
+abbrev pub IsFold : Bool → List ℕ → Type 0
+IsFold fold_case word = word ≡ fold_word fold_case
+
+abbrev pub IsWhole : Bool → List ℕ → Type 0
+IsWhole whole word = word ≡ whole_word whole
 
 abbrev pub IsRuleName : RuleName → List ℕ → Type 0
 IsRuleName name word = word ≡ rule_word name
@@ -189,10 +196,32 @@ FailsSpans limits bytes left =
     (spans : List Ends) × (middle : List ℕ) × HasSome limits spans bytes middle
     × Continues true middle × FailsSpan limits middle left
 
+-- the string of a pattern
+abbrev pub HasQuotedPattern : List ℕ → List ℕ → List ℕ → Type 0
+HasQuotedPattern = λ units. Begins (IsQuotedPattern units)
+
+-- `CASE WHOLE`
+abbrev pub HasHow : Bool × Bool → List ℕ → List ℕ → Type 0
+HasHow =
+    Then (λ fold_case whole. (fold_case, whole)) (λ fold_case. Begins (IsFold fold_case))
+    (λ fold_case whole. Begins (IsWhole whole))
+
+abbrev pub FailsHow : List ℕ → ℕ → Type 0
+FailsHow =
+    ThenFails (λ fold_case. Begins (IsFold fold_case)) (Misfits IsFold)
+    (λ fold_case. Misfits IsWhole)
+
+-- `STRING CASE WHOLE`
+abbrev pub HasQuery : Query → List ℕ → List ℕ → Type 0
+HasQuery = Then query_of HasQuotedPattern (λ pattern. HasHow)
+
+abbrev pub FailsQuery : List ℕ → ℕ → Type 0
+FailsQuery = ThenFails HasQuotedPattern (Misfits IsQuotedPattern) (λ pattern. FailsHow)
+
 -- what follows the name of a rule
 abbrev pub HasRuleAfter : Limits → RuleName → Rule → List ℕ → List ℕ → Type 0
 HasRuleAfter limits ForWord rule bytes rest =
-    (units : List ℕ) × (rule ≡ rules.Word units) × Begins (IsQuotedPattern units) bytes rest
+    (units : List ℕ) × (rule ≡ rules.Word units) × HasQuotedPattern units bytes rest
 HasRuleAfter limits ForBlanks rule bytes rest = (rule ≡ rules.Blanks) × (bytes ≡ rest)
 HasRuleAfter limits ForLong rule bytes rest =
     (limit : ℕ) × (rule ≡ rules.Long limit) × HasNumber limits AColumn limit bytes rest
@@ -224,7 +253,8 @@ HasField limits ASpan = HasSpan limits
 HasField limits OrInvalid = HasOrInvalid limits
 HasField limits Spans = HasSpans limits
 HasField limits AText = λ text. Begins (IsQuoted text)
-HasField limits APattern = λ units. Begins (IsQuotedPattern units)
+HasField limits APattern = HasQuotedPattern
+HasField limits AQuery = HasQuery
 HasField limits ARule = HasRule limits
 HasField limits Expands = λ expand. Begins (IsExpand expand)
 HasField limits Empties = λ empty. Begins (IsEmpty empty)
@@ -241,6 +271,7 @@ FailsField limits OrInvalid = FailsOrInvalid limits
 FailsField limits Spans = FailsSpans limits
 FailsField limits AText = Misfits IsQuoted
 FailsField limits APattern = Misfits IsQuotedPattern
+FailsField limits AQuery = FailsQuery
 FailsField limits ARule = FailsRule limits
 FailsField limits Expands = Misfits IsExpand
 FailsField limits Empties = Misfits IsEmpty

@@ -12,7 +12,7 @@ use Rattle.kte_command.specs.declared.command.Command.{Command}
 use Rattle.kte_script.specs.declared.limits.Limits.{Limits}
 use Rattle.kte_script.specs.declared.limits.Limits.TheVariants.{Script, Journal}
 use Rattle.kte_script.specs.Words.{skip}
-use Rattle.kte_script.specs.Fields.{ALine, AColumn, most, Kind, Number, OrNone, APlace, ASpan, OrInvalid, Spans, AText, APattern, ARule, Expands, Empties, Succeeds, Closes, Value, starts_number}
+use Rattle.kte_script.specs.Fields.{ALine, AColumn, most, Kind, Number, OrNone, APlace, ASpan, OrInvalid, Spans, AText, APattern, AQuery, ARule, Expands, Empties, Succeeds, Closes, Value, starts_number}
 use Rattle.kte_script.specs.Table.{Values, filled, spell_fields, spelling}
 
 -- a place that may be named
@@ -47,6 +47,7 @@ Fits limits OrInvalid span = IfSome span (IsSpan limits)
 Fits limits Spans spans = All (IsSpan limits) spans
 Fits limits AText text = IsText text
 Fits limits APattern units = IsPattern units
+Fits limits AQuery query = IsPattern query.pattern
 Fits limits ARule rule = IsRule limits rule
 Fits limits Expands expand = Unit {0}
 Fits limits Empties empty = Unit {0}

@@ -4,8 +4,8 @@ use Rattle.std.specs.Prelude.{ℕ, List, [], ◌∷◌, ◌++◌, codes, Option,
 use Rattle.std.specs.Str.{bytes_eq}
 use Rattle.kte_edit.specs.declared.change.Change.TheVariants as Change
 use Rattle.kte_command.specs.declared.command.Command.{Command}
-use Rattle.kte_command.specs.declared.command.Command.TheVariants.{Edit, Begin, End, Undo, Redo, MakeRange, SetRange, DropRange, ShowRange, Lock, Unlock, Land, Check, Sync, Save}
-use Rattle.kte_script.specs.Fields.{ALine, Long, Kind, Number, APlace, ASpan, AText, ARule, Expands, Empties, Value, spell_field}
+use Rattle.kte_command.specs.declared.command.Command.TheVariants.{Edit, Begin, End, Undo, Redo, MakeRange, SetRange, DropRange, ShowRange, Lock, Unlock, Land, Fold, Unfold, Find, FindBack, All, Check, Sync, Save}
+use Rattle.kte_script.specs.Fields.{ALine, Long, Kind, Number, APlace, ASpan, AText, AQuery, ARule, Expands, Empties, Value, spell_field}
 
 -- a value for each field
 abbrev pub Values : List Kind → Type 0
@@ -146,6 +146,46 @@ land_row = record {
   make = λ v. Land v.0 v.1.0 v.1.1.0 v.1.1.1.0;
 }
 
+-- `fold L C L C`
+abbrev pub fold_row : Row Command
+fold_row = record {
+  word = codes "fold";
+  kinds = ASpan ∷ [];
+  make = λ v. Fold v.0;
+}
+
+-- `unfold ID`
+abbrev pub unfold_row : Row Command
+unfold_row = record {
+  word = codes "unfold";
+  kinds = Number Long ∷ [];
+  make = λ v. Unfold v.0;
+}
+
+-- `find L C STRING CASE WHOLE`
+abbrev pub find_row : Row Command
+find_row = record {
+  word = codes "find";
+  kinds = APlace ∷ AQuery ∷ [];
+  make = λ v. Find v.0 v.1.0;
+}
+
+-- `findback L C STRING CASE WHOLE`
+abbrev pub findback_row : Row Command
+findback_row = record {
+  word = codes "findback";
+  kinds = APlace ∷ AQuery ∷ [];
+  make = λ v. FindBack v.0 v.1.0;
+}
+
+-- `all STRING CASE WHOLE`
+abbrev pub all_row : Row Command
+all_row = record {
+  word = codes "all";
+  kinds = AQuery ∷ [];
+  make = λ v. All v.0;
+}
+
 -- `check RULE`
 abbrev pub check_row : Row Command
 check_row = record {
@@ -170,11 +210,17 @@ save_row = record {
   make = λ v. Save;
 }
 
--- the commands about ranges
-abbrev pub range_rows : List (Row Command)
-range_rows = range_row ∷ setrange_row ∷ droprange_row ∷ where_row ∷ land_row ∷ []
+-- the commands that search
+abbrev pub find_rows : List (Row Command)
+find_rows = find_row ∷ findback_row ∷ all_row ∷ []
 
--- the commands about transactions, revisions, jobs, the disk and ranges
+-- the commands about ranges, folds and searches
+abbrev pub range_rows : List (Row Command)
+range_rows =
+    range_row ∷ setrange_row ∷ droprange_row ∷ where_row ∷ land_row ∷ fold_row ∷ unfold_row
+    ∷ find_rows
+
+-- the commands about transactions, revisions, jobs, the disk, ranges, folds and searches
 abbrev pub other_rows : List (Row Command)
 other_rows =
     begin_row ∷ end_row ∷ undo_row ∷ redo_row ∷ lock_row ∷ unlock_row ∷ check_row ∷ sync_row
@@ -216,6 +262,11 @@ filled Lock = record { row = lock_row; values = tt }
 filled (Unlock revision) = record { row = unlock_row; values = (revision, tt) }
 filled (Land revision span expand empty) =
     record { row = land_row; values = (revision, (span, (expand, (empty, tt)))) }
+filled (Fold span) = record { row = fold_row; values = (span, tt) }
+filled (Unfold id) = record { row = unfold_row; values = (id, tt) }
+filled (Find from query) = record { row = find_row; values = (from, (query, tt)) }
+filled (FindBack before query) = record { row = findback_row; values = (before, (query, tt)) }
+filled (All query) = record { row = all_row; values = (query, tt) }
 filled (Check rule) = record { row = check_row; values = (rule, tt) }
 filled Sync = record { row = sync_row; values = tt }
 filled Save = record { row = save_row; values = tt }

@@ -1,7 +1,7 @@
 //! The commands that words make, a row of their table each.
 ghost use Rattle.std.specs.Prelude.{◌≡◌};
 ghost use Rattle.kte_script.specs.declared.limits.Limits.TheVariants.{Script};
-ghost use Rattle.kte_script.specs.Table.{insert_row, wrap_row, unwrap_row, remove_row, replace_row, range_row, setrange_row, droprange_row, where_row, unlock_row, land_row, check_row, range_rows, other_rows, table, row_in};
+ghost use Rattle.kte_script.specs.Table.{insert_row, wrap_row, unwrap_row, remove_row, replace_row, range_row, setrange_row, droprange_row, where_row, unlock_row, land_row, fold_row, unfold_row, find_row, findback_row, all_row, check_row, find_rows, range_rows, other_rows, table, row_in};
 ghost use Rattle.kte_script.specs.Reading.{Gives, Moves, row_at, row_or_fault, front_at, command_at};
 
 use crate::fault::ReadError;
@@ -90,13 +90,19 @@ impl Words<'_> {
         } else if word == b"save".as_slice() {
             Ok(Command::Save)
         } else {
-            self.range_of(limits, word, left)
+            self.range_of(alloc, limits, word, left)
         }
     }
 
-    /// Takes the fields of the command about ranges that a word names. From that word on `left`
-    /// bytes are left.
-    fn range_of(&mut self, limits: Limits, word: &[u8], left: usize) -> Result<Command, ReadError>
+    /// Takes the fields of the command about ranges, folds or searches that a word names. From that
+    /// word on `left` bytes are left.
+    fn range_of(
+        &mut self,
+        alloc: Global,
+        limits: Limits,
+        word: &[u8],
+        left: usize,
+    ) -> Result<Command, ReadError>
         ensures { Moves result self.new.rest.now
             (row_or_fault limits (row_in range_rows word.now) left self.old.rest.now) }
     {
@@ -110,6 +116,32 @@ impl Words<'_> {
             self.show(limits)
         } else if word == b"land".as_slice() {
             self.land(limits)
+        } else if word == b"fold".as_slice() {
+            self.fold(limits)
+        } else if word == b"unfold".as_slice() {
+            self.unfold(limits)
+        } else {
+            self.find_of(alloc, limits, word, left)
+        }
+    }
+
+    /// Takes the fields of the search that a word names. From that word on `left` bytes are left.
+    fn find_of(
+        &mut self,
+        alloc: Global,
+        limits: Limits,
+        word: &[u8],
+        left: usize,
+    ) -> Result<Command, ReadError>
+        ensures { Moves result self.new.rest.now
+            (row_or_fault limits (row_in find_rows word.now) left self.old.rest.now) }
+    {
+        if word == b"find".as_slice() {
+            self.find(alloc, limits)
+        } else if word == b"findback".as_slice() {
+            self.findback(alloc, limits)
+        } else if word == b"all".as_slice() {
+            self.all(alloc, limits)
         } else {
             Err(ReadError::Misfit { left })
         }
@@ -228,6 +260,48 @@ impl Words<'_> {
             expand,
             empty,
         })
+    }
+
+    #[tactic(auto, unfolding(crate::specs::Reading::row_at))]
+    fn fold(&mut self, limits: Limits) -> Result<Command, ReadError>
+        ensures { Moves result self.new.rest.now (row_at limits fold_row self.old.rest.now) }
+    {
+        let span = self.span(limits)?;
+        Ok(Command::Fold { span })
+    }
+
+    #[tactic(auto, unfolding(crate::specs::Reading::row_at))]
+    fn unfold(&mut self, limits: Limits) -> Result<Command, ReadError>
+        ensures { Moves result self.new.rest.now (row_at limits unfold_row self.old.rest.now) }
+    {
+        let id = self.long(limits)?;
+        Ok(Command::Unfold { id })
+    }
+
+    #[tactic(auto, unfolding(crate::specs::Reading::row_at))]
+    fn find(&mut self, alloc: Global, limits: Limits) -> Result<Command, ReadError>
+        ensures { Moves result self.new.rest.now (row_at limits find_row self.old.rest.now) }
+    {
+        let from = self.place(limits)?;
+        let query = self.query(alloc)?;
+        Ok(Command::Find { from, query })
+    }
+
+    #[tactic(auto, unfolding(crate::specs::Reading::row_at))]
+    fn findback(&mut self, alloc: Global, limits: Limits) -> Result<Command, ReadError>
+        ensures { Moves result self.new.rest.now (row_at limits findback_row self.old.rest.now) }
+    {
+        let before = self.place(limits)?;
+        let query = self.query(alloc)?;
+        Ok(Command::FindBack { before, query })
+    }
+
+    #[tactic(auto, unfolding(crate::specs::Reading::row_at))]
+    fn all(&mut self, alloc: Global, limits: Limits) -> Result<Command, ReadError>
+        ensures { Moves result self.new.rest.now (row_at limits all_row self.old.rest.now) }
+    {
+        let query = self.query(alloc)?;
+        Ok(Command::All { query })
     }
 
     #[tactic(auto, unfolding(crate::specs::Reading::row_at))]

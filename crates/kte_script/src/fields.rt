@@ -1,10 +1,10 @@
 //! The words of a line, and what a word is.
-ghost use Rattle.std.specs.Prelude.{◌≡◌, ◌==◌, ◌+◌, ◌-◌, ◌*◌, ◌<◌, ◌≤◌, ◌^◌, true, length, IfSome, MatchOption, SomeIff, not};
+ghost use Rattle.std.specs.Prelude.{◌≡◌, ◌==◌, ◌+◌, ◌-◌, ◌*◌, ◌<◌, ◌≤◌, ◌^◌, true, false, length, IfSome, MatchOption, SomeIff, not};
 ghost use Rattle.std.specs.List.{list_all, position};
 ghost use Rattle.std.specs.Char.{is_ascii_digit};
 ghost use Rattle.std.specs.Str.Parse.{digits_value as value_of};
 ghost use Rattle.kte_script.specs.Words.{skip, word, behind, number_of};
-ghost use Rattle.kte_script.specs.Fields.{Long, or_none_of, expand_of, empty_of, succeeds_of, closes_of};
+ghost use Rattle.kte_script.specs.Fields.{Long, one_of, or_none_of, expand_of, empty_of};
 
 use crate::limits::Limits;
 use kte_place::{Empty, Expand};
@@ -132,28 +132,13 @@ pub(crate) fn empty_of(word: &[u8]) -> Option<Empty>
     }
 }
 
-/// Returns `true` for `ok`, `false` for `failed`.
-#[tactic(auto, unfolding(crate::specs::Fields::succeeds_of))]
-pub(crate) fn succeeds_of(word: &[u8]) -> Option<bool>
-    ensures { result ≡ succeeds_of word.now }
+/// Returns `true` for the word `yes`, `false` for the word `no`.
+pub(crate) fn flag_of(yes: &[u8], no: &[u8], word: &[u8]) -> Option<bool>
+    ensures { result ≡ one_of yes.now true no.now false word.now }
 {
-    if word == b"ok".as_slice() {
+    if word == yes {
         Some(true)
-    } else if word == b"failed".as_slice() {
-        Some(false)
-    } else {
-        None
-    }
-}
-
-/// Returns `true` for `closed`, `false` for `open`.
-#[tactic(auto, unfolding(crate::specs::Fields::closes_of))]
-pub(crate) fn closes_of(word: &[u8]) -> Option<bool>
-    ensures { result ≡ closes_of word.now }
-{
-    if word == b"closed".as_slice() {
-        Some(true)
-    } else if word == b"open".as_slice() {
+    } else if word == no {
         Some(false)
     } else {
         None

@@ -1,5 +1,6 @@
 //! Laws of scripts and spellings. Each function does nothing: its contract is the law.
-ghost use Rattle.std.specs.Prelude.{◌≡◌, ◌↔◌, ℕ, true, Ok, Err, List, ◌∷◌, ◌++◌};
+ghost use Rattle.std.specs.Prelude.{◌≡◌, ◌↔◌, ◌≤◌, ℕ, true, Ok, Err, List, [], ◌∷◌, ◌++◌, length, All};
+ghost use Rattle.std.specs.List.{flat_map};
 ghost use Rattle.kte_command.specs.declared.command.Command.{Command};
 ghost use Rattle.kte_script.specs.Fields.{Kind};
 ghost use Rattle.kte_script.specs.InWords.{IsCommandLine, IsFaultyLine};
@@ -9,6 +10,7 @@ ghost use Rattle.kte_script.specs.Script.{Says, meaning, script_of};
 ghost use Rattle.kte_script.specs.ScriptInWords.{IsScript, IsBad, HasTooMany};
 ghost use Rattle.kte_script.specs.Table.{Values, spell_fields, spelling};
 ghost use Rattle.kte_script.specs.Words.{ends_here};
+ghost use Rattle.kte_script.specs.declared.TheConstants.{MAX_SCRIPT_LENGTH, MAX_COMMANDS};
 ghost use Rattle.kte_script.specs.declared.limits.Limits.{Limits};
 ghost use Rattle.kte_script.specs.declared.limits.Limits.TheVariants.{Journal};
 ghost use Rattle.kte_script.specs.declared.fault.ScriptFault.TheVariants.{Bad, TooMany};
@@ -59,4 +61,13 @@ pub fn scripts_in_words()
         → (script_of bytes ≡ Err (Bad line column)) ↔ IsBad bytes line column }
     ensures too_many { (bytes : List ℕ) (line : ℕ)
         → (script_of bytes ≡ Err (TooMany line)) ↔ HasTooMany bytes line }
+{}
+
+/// Commands within the limits of a script, each spelled and followed by LF, are a script that is
+/// read as these commands, if neither they nor its bytes are too many.
+pub fn scripts_spelled_and_read()
+    ensures { (commands : List Command) (bytes : List ℕ) → All InLimits commands
+        → length commands ≤ MAX_COMMANDS
+        → bytes ≡ flat_map (λ command. spelling command ++ 10 ∷ []) commands
+        → length bytes ≤ MAX_SCRIPT_LENGTH → script_of bytes ≡ Ok commands }
 {}

@@ -5,12 +5,13 @@ ghost use Rattle.std.specs.Fmt.{decimal};
 ghost use Rattle.std.specs.List.{list_all, flat_map};
 ghost use Rattle.kte_text.specs.Units.{utf8_of};
 ghost use Rattle.kte_script.specs.Strings.{hex_digit, spell_byte, spell_text};
-ghost use Rattle.kte_script.specs.Fields.{spell_number, spell_or_none, spell_place, spell_span, spell_or_invalid, spell_spans, spell_pattern, spell_rule, spell_expand, spell_empty, spell_succeeds, spell_closes};
+ghost use Rattle.kte_script.specs.Fields.{spell_number, spell_or_none, spell_place, spell_span, spell_or_invalid, spell_spans, spell_pattern, spell_folds, spell_whole, spell_query, spell_rule, spell_expand, spell_empty, spell_succeeds, spell_closes};
 ghost use Rattle.kte_script.specs.Spelled.{Keeps, is_itself};
 
 use itoa::Buffer;
 use kte_find::Rule;
 use kte_place::{Empty, Expand, Place, Span, Spans};
+use kte_search::Query;
 use kte_text::{Line, Lines, Text, push_utf8};
 use std::alloc::AllocError;
 
@@ -121,6 +122,39 @@ pub fn push_closes(out: &mut Vec<u8>, closed: bool) -> Result<(), AllocError>
     match closed {
         true => out.extend_from_slice(b" closed"),
         false => out.extend_from_slice(b" open"),
+    }
+}
+
+/// Appends a query: its pattern as a string, `case` or `nocase`, and `word` or `part`.
+#[tactic(auto, using(crate::proofs::SpellingLemmas::three_parts, crate::proofs::SpellingLemmas::keeps))]
+pub fn push_query(out: &mut Vec<u8>, query: &Query) -> Result<(), AllocError>
+    ensures ok { OnOk result (out.new.items ≡ out.old.items ++ spell_query query.now) }
+    ensures err { OnErr result (Keeps out.old.items out.new.items) }
+{
+    push_pattern(out, &query.pattern)?;
+    push_folds(out, query.fold_case)?;
+    push_whole(out, query.whole)
+}
+
+/// Appends a space and whether letters are folded, as `nocase` or `case`.
+fn push_folds(out: &mut Vec<u8>, fold_case: bool) -> Result<(), AllocError>
+    ensures ok { OnOk result (out.new.items ≡ out.old.items ++ spell_folds fold_case) }
+    ensures err { OnErr result (Keeps out.old.items out.new.items) }
+{
+    match fold_case {
+        true => out.extend_from_slice(b" nocase"),
+        false => out.extend_from_slice(b" case"),
+    }
+}
+
+/// Appends a space and whether matches are whole words, as `word` or `part`.
+fn push_whole(out: &mut Vec<u8>, whole: bool) -> Result<(), AllocError>
+    ensures ok { OnOk result (out.new.items ≡ out.old.items ++ spell_whole whole) }
+    ensures err { OnErr result (Keeps out.old.items out.new.items) }
+{
+    match whole {
+        true => out.extend_from_slice(b" word"),
+        false => out.extend_from_slice(b" part"),
     }
 }
 

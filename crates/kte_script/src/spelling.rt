@@ -1,7 +1,7 @@
 //! The canonical spelling of a command.
 ghost use Rattle.std.specs.Prelude.{◌≡◌, ◌↔◌, ℕ, List, ◌++◌, Some, IfOk, OnOk, OnErr, IsTrue};
 ghost use Rattle.kte_edit.specs.declared.change.Change.TheVariants as Change;
-ghost use Rattle.kte_command.specs.declared.command.Command.TheVariants.{Edit, MakeRange, SetRange, DropRange, ShowRange, Unlock, Land, Check};
+ghost use Rattle.kte_command.specs.declared.command.Command.TheVariants.{Edit, MakeRange, SetRange, DropRange, ShowRange, Unlock, Land, Fold, Unfold, Find, FindBack, All, Check};
 ghost use Rattle.kte_command.specs.declared.command.Command.{Command};
 ghost use Rattle.kte_script.specs.Limits.{BeginsWith};
 ghost use Rattle.kte_script.specs.Table.{spelling};
@@ -10,13 +10,14 @@ ghost use Rattle.kte_script.specs.Spelled.{Keeps};
 use crate::fault::ReadError;
 use crate::limits::Limits;
 use crate::push::{
-    push_empty, push_expand, push_number, push_place, push_rule, push_span, push_text,
+    push_empty, push_expand, push_number, push_place, push_query, push_rule, push_span, push_text,
 };
 use crate::words::Words;
 use kte_command::Command;
 use kte_edit::Change;
 use kte_find::Rule;
 use kte_place::{Empty, Expand, Place, Span};
+use kte_search::Query;
 use kte_text::Text;
 use std::alloc::{AllocError, Global};
 
@@ -91,6 +92,11 @@ fn push_command(out: &mut Vec<u8>, command: &Command) -> Result<(), AllocError>
             expand,
             empty,
         } => push_land(out, *revision, span, *expand, *empty),
+        Command::Fold { span } => push_fold(out, span),
+        Command::Unfold { id } => push_unfold(out, *id),
+        Command::Find { from, query } => push_find(out, *from, query),
+        Command::FindBack { before, query } => push_findback(out, *before, query),
+        Command::All { query } => push_all(out, query),
         Command::Check { rule } => push_check(out, rule),
         Command::Sync => out.extend_from_slice(b"sync"),
         Command::Save => out.extend_from_slice(b"save"),
@@ -233,6 +239,54 @@ fn push_land(
     push_span(out, span)?;
     push_expand(out, expand)?;
     push_empty(out, empty)
+}
+
+#[tactic(auto, using(crate::proofs::SpellingLemmas::one_field, crate::proofs::SpellingLemmas::keeps))]
+fn push_fold(out: &mut Vec<u8>, span: &Span) -> Result<(), AllocError>
+    ensures ok { OnOk result (out.new.items ≡ out.old.items ++ spelling (Fold span.now)) }
+    ensures err { OnErr result (Keeps out.old.items out.new.items) }
+{
+    out.extend_from_slice(b"fold")?;
+    push_span(out, span)
+}
+
+#[tactic(auto, using(crate::proofs::SpellingLemmas::one_field, crate::proofs::SpellingLemmas::keeps))]
+fn push_unfold(out: &mut Vec<u8>, id: u64) -> Result<(), AllocError>
+    ensures ok { OnOk result (out.new.items ≡ out.old.items ++ spelling (Unfold id)) }
+    ensures err { OnErr result (Keeps out.old.items out.new.items) }
+{
+    out.extend_from_slice(b"unfold")?;
+    push_number(out, id)
+}
+
+#[tactic(auto, using(crate::proofs::SpellingLemmas::two_fields, crate::proofs::SpellingLemmas::keeps))]
+fn push_find(out: &mut Vec<u8>, from: Place, query: &Query) -> Result<(), AllocError>
+    ensures ok { OnOk result (out.new.items ≡ out.old.items ++ spelling (Find from query.now)) }
+    ensures err { OnErr result (Keeps out.old.items out.new.items) }
+{
+    out.extend_from_slice(b"find")?;
+    push_place(out, from)?;
+    push_query(out, query)
+}
+
+#[tactic(auto, using(crate::proofs::SpellingLemmas::two_fields, crate::proofs::SpellingLemmas::keeps))]
+fn push_findback(out: &mut Vec<u8>, before: Place, query: &Query) -> Result<(), AllocError>
+    ensures ok { OnOk result (out.new.items
+        ≡ out.old.items ++ spelling (FindBack before query.now)) }
+    ensures err { OnErr result (Keeps out.old.items out.new.items) }
+{
+    out.extend_from_slice(b"findback")?;
+    push_place(out, before)?;
+    push_query(out, query)
+}
+
+#[tactic(auto, using(crate::proofs::SpellingLemmas::one_field, crate::proofs::SpellingLemmas::keeps))]
+fn push_all(out: &mut Vec<u8>, query: &Query) -> Result<(), AllocError>
+    ensures ok { OnOk result (out.new.items ≡ out.old.items ++ spelling (All query.now)) }
+    ensures err { OnErr result (Keeps out.old.items out.new.items) }
+{
+    out.extend_from_slice(b"all")?;
+    push_query(out, query)
 }
 
 #[tactic(auto, using(crate::proofs::SpellingLemmas::one_field, crate::proofs::SpellingLemmas::keeps))]

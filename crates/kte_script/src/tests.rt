@@ -27,7 +27,7 @@ fn spelled(alloc: Global, script: &[u8]) -> Result<String, Fail> {
 #[test]
 fn scripts_are_read(rt: HostRuntime) -> Result<(), Fail> {
     let alloc = rt.alloc();
-    let table: [(&[u8], &str); 29] = [
+    let table: [(&[u8], &str); 35] = [
         (b"", ""),
         (b"\n  \n\r\n# insert 0 0 \"a\n  #", ""),
         (b"insert 0 5 \"!\"", "insert 0 5 \"!\"\n"),
@@ -90,6 +90,27 @@ fn scripts_are_read(rt: HostRuntime) -> Result<(), Fail> {
             b"wrap 0 0\nsync\n  save \r\nsave",
             "wrap 0 0\nsync\nsave\nsave\n",
         ),
+        (b"fold 2 0 1 0", "fold 1 0 2 0\n"),
+        (
+            b" fold  0 3 000 1073741824 \nunfold 4294967295\nunfold 0000000000",
+            "fold 0 3 0 1073741824\nunfold 4294967295\nunfold 0\n",
+        ),
+        (
+            b"find 0 0 \"a\" case part\n  find  01 1073741824  \" \\t\"  nocase  word \r\n",
+            "find 0 0 \"a\" case part\nfind 1 1073741824 \" \\t\" nocase word\n",
+        ),
+        (
+            b"findback 3 7 \"\xC3\xA9\\\"\\x1f\" case word",
+            "findback 3 7 \"\u{E9}\\\"\\x1f\" case word\n",
+        ),
+        (
+            b"findback 1073741824 0 \"word\" nocase part",
+            "findback 1073741824 0 \"word\" nocase part\n",
+        ),
+        (
+            b"all \"ab\" nocase part\nall \"\t\" case word",
+            "all \"ab\" nocase part\nall \"\\t\" case word\n",
+        ),
     ];
     for (script, want) in table {
         let text = spelled(alloc, script)?;
@@ -101,7 +122,7 @@ fn scripts_are_read(rt: HostRuntime) -> Result<(), Fail> {
 #[test]
 fn the_first_fault_is_named(rt: HostRuntime) -> Result<(), Fail> {
     let alloc = rt.alloc();
-    let table: [(&[u8], u64, u64); 85] = [
+    let table: [(&[u8], u64, u64); 111] = [
         (b"lock 0", 1, 6),
         (b"unlock 4294967296", 1, 8),
         (b"land 0 0 0 0 1 none", 1, 20),
@@ -178,6 +199,32 @@ fn the_first_fault_is_named(rt: HostRuntime) -> Result<(), Fail> {
         (b"check long 1073741825", 1, 12),
         (b"check blanks x", 1, 14),
         (b"check Pairs", 1, 7),
+        (b"fold", 1, 5),
+        (b"fold 0 0 1", 1, 11),
+        (b"fold 0 0 1073741825 0", 1, 10),
+        (b"fold 0 0 1 0 1", 1, 14),
+        (b"Fold 0 0 1 0", 1, 1),
+        (b"unfold", 1, 7),
+        (b"unfold 4294967296", 1, 8),
+        (b"unfold 1 2", 1, 10),
+        (b"find 0", 1, 7),
+        (b"find 0 x \"a\" case part", 1, 8),
+        (b"find 0 1073741825 \"a\" case part", 1, 8),
+        (b"find 0 0 a case part", 1, 10),
+        (b"find 0 0 \"\" case part", 1, 10),
+        (b"find 0 0 \"a\\nb\" case part", 1, 10),
+        (b"find 0 0 \"a\"case part", 1, 10),
+        (b"find 0 0 \"a\" Case part", 1, 14),
+        (b"find 0 0 \"a\" part case", 1, 14),
+        (b"find 0 0 \"a\" case", 1, 18),
+        (b"find 0 0 \"a\" case Part", 1, 19),
+        (b"find 0 0 \"a\" case words", 1, 19),
+        (b"findback 0 0 \"a\" nocase word 1", 1, 30),
+        (b"findback 1073741825 0 \"a\" case part", 1, 10),
+        (b"all", 1, 4),
+        (b"all \"a\" case", 1, 13),
+        (b"all \"\" nocase word", 1, 5),
+        (b"all 0 0 \"a\" case part", 1, 5),
         (b"sync 1", 1, 6),
         (b"lock\n save  \"\"", 2, 8),
         (b"Sync", 1, 1),
@@ -257,7 +304,7 @@ fn spelling_len(alloc: Global, bytes: &[u8]) -> Result<Option<u64>, Fail> {
 #[test]
 fn spellings_are_found(rt: HostRuntime) -> Result<(), Fail> {
     let alloc = rt.alloc();
-    let table: [(&[u8], Option<u64>); 24] = [
+    let table: [(&[u8], Option<u64>); 32] = [
         (b"", None),
         (b" ", None),
         (b"sync ", Some(4)),
@@ -282,6 +329,14 @@ fn spellings_are_found(rt: HostRuntime) -> Result<(), Fail> {
         (b"insert 0 0 \"\\x09\" = ", None),
         (b"insert 0 0 \"\xC3\" = ", None),
         (b"sync\n", None),
+        (b"fold 1 0 2 0 = range 1 1 0 2 0", Some(12)),
+        (b"fold 2 0 1 0 = ", None),
+        (b"unfold 18446744073709551615 = dropped 1", Some(27)),
+        (b"find 0 0 \"a\" case part = found", Some(22)),
+        (b"find 0 0 \"a\" case  part = found", None),
+        (b"findback 0 10 \"\\t\" nocase word = ", Some(30)),
+        (b"all \"\" case part = found", None),
+        (b"all \"a\" case part\n", None),
     ];
     for (bytes, want) in table {
         assert_eq!(rt; spelling_len(alloc, bytes)?, want);

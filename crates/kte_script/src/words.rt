@@ -2,9 +2,9 @@
 //!
 //! Words are parted by spaces alone. A call that fails names the first word that does not fit, and
 //! may have moved to it or past it.
-ghost use Rattle.std.specs.Prelude.{◌≡◌, ◌==◌, ◌≤◌, length, IfOk};
+ghost use Rattle.std.specs.Prelude.{◌≡◌, ◌==◌, ◌≤◌, true, false, length, IfOk};
 ghost use Rattle.kte_script.specs.Words.{skip, word, behind, ends_here, number_of};
-ghost use Rattle.kte_script.specs.Fields.{ALine, AColumn, Short, Long, word_at, number_at, or_none_at, place_at, span_at, or_invalid_at, spans_at, starts_number, text_at, pattern_at, held, rule_at, expand_at, empty_at, succeeds_at, closes_at};
+ghost use Rattle.kte_script.specs.Fields.{ALine, AColumn, Short, Long, word_at, one_of, number_at, or_none_at, place_at, span_at, or_invalid_at, spans_at, starts_number, text_at, pattern_at, held, query_at, folds_at, whole_at, rule_at, expand_at, empty_at, succeeds_at, closes_at};
 ghost use Rattle.kte_script.specs.Reading.{Gives, Moves, end_at};
 
 use crate::fault::ReadError;
@@ -13,6 +13,7 @@ use crate::limits::Limits;
 use crate::quotation::{pattern_of, plain_string, string, text_of};
 use kte_find::Rule;
 use kte_place::{Empty, Expand, Place, Span, Spans};
+use kte_search::Query;
 use kte_text::{Line, Text};
 use std::alloc::Global;
 
@@ -207,22 +208,61 @@ impl<'a> Words<'a> {
         fields::empty_of(word).ok_or(ReadError::Misfit { left })
     }
 
+    /// Takes one of two words, and returns whether it is `yes`.
+    #[tactic(auto, using(crate::proofs::WordLemmas::moved))]
+    fn flag(&mut self, yes: &[u8], no: &[u8]) -> Result<bool, ReadError>
+        ensures { Moves result self.new.rest.now
+            (word_at (one_of yes.now true no.now false) self.old.rest.now) }
+    {
+        let (word, left) = self.word();
+        fields::flag_of(yes, no, word).ok_or(ReadError::Misfit { left })
+    }
+
     /// Takes whether a call succeeded: `ok`, or else `failed`.
-    #[tactic(auto, using(crate::proofs::WordLemmas::moved), unfolding(crate::specs::Fields::succeeds_at))]
+    #[tactic(auto, unfolding(crate::specs::Fields::succeeds_at, crate::specs::Fields::succeeds_of))]
     pub fn succeeds(&mut self) -> Result<bool, ReadError>
         ensures { Moves result self.new.rest.now (succeeds_at self.old.rest.now) }
     {
-        let (word, left) = self.word();
-        fields::succeeds_of(word).ok_or(ReadError::Misfit { left })
+        self.flag(b"ok", b"failed")
     }
 
     /// Takes whether a session is closed: `closed`, or else `open`.
-    #[tactic(auto, using(crate::proofs::WordLemmas::moved), unfolding(crate::specs::Fields::closes_at))]
+    #[tactic(auto, unfolding(crate::specs::Fields::closes_at, crate::specs::Fields::closes_of))]
     pub fn closes(&mut self) -> Result<bool, ReadError>
         ensures { Moves result self.new.rest.now (closes_at self.old.rest.now) }
     {
-        let (word, left) = self.word();
-        fields::closes_of(word).ok_or(ReadError::Misfit { left })
+        self.flag(b"closed", b"open")
+    }
+
+    /// Takes whether letters are folded: `nocase`, or else `case`.
+    #[tactic(auto, unfolding(crate::specs::Fields::folds_at, crate::specs::Fields::folds_of))]
+    fn folds(&mut self) -> Result<bool, ReadError>
+        ensures { Moves result self.new.rest.now (folds_at self.old.rest.now) }
+    {
+        self.flag(b"nocase", b"case")
+    }
+
+    /// Takes whether matches are whole words: `word`, or else `part`.
+    #[tactic(auto, unfolding(crate::specs::Fields::whole_at, crate::specs::Fields::whole_of))]
+    fn whole(&mut self) -> Result<bool, ReadError>
+        ensures { Moves result self.new.rest.now (whole_at self.old.rest.now) }
+    {
+        self.flag(b"word", b"part")
+    }
+
+    /// Takes a query: its pattern, whether letters are folded, and whether matches are whole words.
+    #[tactic(auto, unfolding(crate::specs::Fields::query_at, crate::specs::Fields::how_at))]
+    pub fn query(&mut self, alloc: Global) -> Result<Query, ReadError>
+        ensures { Moves result self.new.rest.now (query_at self.old.rest.now) }
+    {
+        let pattern = self.pattern(alloc)?;
+        let fold_case = self.folds()?;
+        let whole = self.whole()?;
+        Ok(Query {
+            pattern,
+            fold_case,
+            whole,
+        })
     }
 
     /// Takes a string, which is a text.

@@ -1,17 +1,18 @@
 -- The words of each command.
-use Rattle.std.proofs.Common.{◌≡◌, ◌≢◌, ◌↔◌, ◌⊎◌, ⊎_elim, inl, inr, ℕ, zero, suc, ◌+◌, ◌<◌, List, [], ◌∷◌, ◌++◌, length, take, Option, Some, None, subst, sym, refl, ap, ◌∙◌, codes, slice_get, IsSome, IsNone, IfSome, IsSomeAnd, false, is_some, Result, Ok, Err, IfOk, IfErr, if◌then◌else◌, arith}
+use Rattle.std.proofs.Common.{◌≡◌, ◌≢◌, ◌↔◌, ◌⊎◌, ⊎_elim, inl, inr, ℕ, zero, suc, ◌+◌, ◌-◌, ◌^◌, ◌<◌, ◌≤◌, List, [], ◌∷◌, ◌++◌, length, take, Option, Some, None, subst, sym, refl, ap, ◌∙◌, codes, slice_get, IsNone, IfSome, IsSomeAnd, false, is_some, Result, Ok, Err, IfOk, IfErr, if◌then◌else◌, arith}
 use Rattle.std.proofs.lemmas.Bool.{cases_Bool, iff_false, false≢true}
 use Rattle.std.proofs.lemmas.Option.{same_Some}
 use Rattle.std.proofs.lemmas.Result.{IfOk-at_ok}
 use Rattle.std.proofs.lemmas.Slice.Eq.{bytes_eq-Decides}
 use Rattle.std.specs.Str.{bytes_eq}
-use Rattle.kte_words.specs.Forms.{Part, Lead, AFile, Are, Stops}
-use Rattle.kte_words.specs.Words.{Spells, SpellsFile, IsCommand, BeginsCommand, FirstMisfit, file_form, file_of}
+use Rattle.kte_words.specs.Forms.{Part, Lead, AFile, ANumber, IsNumber, Are, Stops, number_at}
+use Rattle.kte_words.specs.Words.{Spells, IsCommand, BeginsCommand, FirstMisfit, file_of}
+use Rattle.kte_words.specs.declared.TheConstants.{MAX_COUNT}
 use Rattle.kte_words.specs.declared.words.Words.{Words}
-use Rattle.kte_words.specs.declared.words.Words.TheVariants.{Edit, Recover}
+use Rattle.kte_words.specs.declared.words.Words.TheVariants.{Edit, Recover, Gen}
 use Rattle.kte_words.specs.declared.parsing.BadWords.{BadWords}
 use Rattle.kte_words.proofs.MisfitLemmas.{misfit}
-use Rattle.kte_words.proofs.FormLemmas.{stops-within, stops-are, stops-before, stops-next, are-or-stop}
+use Rattle.kte_words.proofs.FormLemmas.{HaveWords, stops-within, stops-are, stops-before, stops-next, are-or-stop}
 
 same : {A : Type 0} {a b : A} → Some a ≡ Some b → a ≡ b
 same {a = a} {b = b} is = same_Some a b is
@@ -19,24 +20,30 @@ same {a = a} {b = b} is = same_Some a b is
 -- ---- the command of a first word
 
 -- the command that words are, if they are one
-abbrev command_of : List ℕ → Option Words
-command_of word =
+abbrev command_of : List ℕ → List (List ℕ) → Option Words
+command_of word words =
     if bytes_eq word (codes "edit") then Some (Edit 1)
     else if bytes_eq word (codes "recover") then Some (Recover 1)
+    else if bytes_eq word (codes "gen")
+    then Some (Gen (number_at (word ∷ words) 1) (number_at (word ∷ words) 2))
     else None
 
 command-of : (word : List ℕ) (words : List (List ℕ)) (command : Words)
-    → Spells (word ∷ words) command → command_of word ≡ Some command
+    → Spells (word ∷ words) command → command_of word words ≡ Some command
 command-of word words (Edit file) spelled =
-    subst (λ w. command_of w ≡ Some (Edit file)) (sym spelled.0.0)
+    subst (λ w. command_of w words ≡ Some (Edit file)) (sym spelled.0.0)
     (ap (λ n. Some (Edit n)) (sym spelled.1))
 command-of word words (Recover file) spelled =
-    subst (λ w. command_of w ≡ Some (Recover file)) (sym spelled.0.0)
+    subst (λ w. command_of w words ≡ Some (Recover file)) (sym spelled.0.0)
     (ap (λ n. Some (Recover n)) (sym spelled.1))
+command-of word words (Gen number count) spelled =
+    subst (λ w. command_of w words ≡ Some (Gen number count)) (sym spelled.0.0)
+    (rw (spelled.1, spelled.2) refl)
 
 no-words : (command : Words) → ¬ (Spells [] command)
 no-words (Edit file) spelled = spelled.0
 no-words (Recover file) spelled = spelled.0
+no-words (Gen number count) spelled = spelled.0
 
 pub one-command : (words : List (List ℕ)) (a b : Words) → Spells words a → Spells words b → a ≡ b
 one-command [] a b first second = absurd (no-words a first)
@@ -70,29 +77,53 @@ named-file (word ∷ []) (Recover file) spelled = absurd spelled.0.1
 named-file (word ∷ name ∷ words) (Recover file) spelled =
     subst (λ at. IsSomeAnd (slice_get (word ∷ name ∷ words) at) (λ one. one ≢ []))
     (sym spelled.1) spelled.0.1.0
+named-file (word ∷ words) (Gen number count) spelled = tt
 
 -- ---- the forms of commands
 
 -- all commands of this word have these parts after it, and such words are a command
-record IsForm (lead : List ℕ) (parts : List Part) : Type 0 where
-  make : (words : List (List ℕ)) → Are (Lead lead ∷ parts) words → IsCommand words
-  only : (words : List (List ℕ)) → IsCommand (lead ∷ words)
+pub record IsForm (lead : List ℕ) (parts : List Part) : Type 0 where
+  pub have : HaveWords parts
+  pub make : (words : List (List ℕ)) → Are (Lead lead ∷ parts) words → IsCommand words
+  pub only : (words : List (List ℕ)) → IsCommand (lead ∷ words)
       → Are (Lead lead ∷ parts) (lead ∷ words)
 
-edit-form : IsForm (codes "edit") (AFile ∷ [])
+pub edit-form : IsForm (codes "edit") (AFile ∷ [])
 edit-form = record {
+  have = ((codes "f", (λ is. omega (arith, ap length is))), tt);
   make = λ words are. (Edit 1, (are, refl));
   only = λ words is.
-      (subst (Spells (codes "edit" ∷ words)) (sym (same (command-of (codes "edit") words is.0 is.1)))
-      is.1).0;
+      (subst (Spells (codes "edit" ∷ words))
+      (sym (same (command-of (codes "edit") words is.0 is.1))) is.1).0;
 }
 
-recover-form : IsForm (codes "recover") (AFile ∷ [])
+pub recover-form : IsForm (codes "recover") (AFile ∷ [])
 recover-form = record {
+  have = edit-form.have;
   make = λ words are. (Recover 1, (are, refl));
   only = λ words is.
       (subst (Spells (codes "recover" ∷ words))
       (sym (same (command-of (codes "recover") words is.0 is.1))) is.1).0;
+}
+
+is-one : (least most : ℕ) → least ≤ 1 → 1 ≤ most → IsNumber least most (codes "1")
+is-one least most below above = record {
+  digits = (omega arith, (omega arith, tt));
+  short = omega arith;
+  at_least = below;
+  at_most = above;
+}
+
+pub gen-form : IsForm (codes "gen") (ANumber 0 (2 ^ 64 - 1) ∷ ANumber 1 MAX_COUNT ∷ [])
+gen-form = record {
+  have = (
+    (codes "1", is-one 0 (2 ^ 64 - 1) (omega arith) (omega arith)),
+    ((codes "1", is-one 1 MAX_COUNT (omega arith) (omega arith)), tt),
+  );
+  make = λ words are. (Gen (number_at words 1) (number_at words 2), (are, refl, refl));
+  only = λ words is.
+      (subst (Spells (codes "gen" ∷ words))
+      (sym (same (command-of (codes "gen") words is.0 is.1))) is.1).0;
 }
 
 abbrev a_command : List (List ℕ)
@@ -119,7 +150,7 @@ stopped : (lead : List ℕ) (parts : List Part) → IsForm lead parts → (word 
 stopped lead parts form word words zero is other = absurd (other is)
 stopped lead parts form word words (suc at) is stops =
     let lead_stops : Stops (Lead lead ∷ parts) (lead ∷ words) (suc at) = (refl, stops.1) in
-    let before = stops-before (Lead lead ∷ parts) (lead ∷ words) (suc at) lead_stops in
+    let before = stops-before (Lead lead ∷ parts) (lead ∷ words) (suc at) ((lead, refl), form.have) lead_stops in
     subst (λ w. FirstMisfit (w ∷ words) (suc at)) (sym is)
     (misfit (lead ∷ words) (suc at)
     (λ command. stops-are (Lead lead ∷ parts) (lead ∷ words) (suc at) lead_stops
@@ -129,20 +160,13 @@ stopped lead parts form word words (suc at) is stops =
     (λ inside begins. next lead parts form words at stops.1 (omega (arith, inside))
     (subst BeginsCommand (ap (λ n. take n (lead ∷ words)) (next-is at)) begins)))
 
--- the first word of a command of a file, and then the place at which its words stop being one
-pub edit-stopped : (words : List (List ℕ)) (at : ℕ)
-    → slice_get words 0 ≡ Some (codes "edit") → Stops (file_form (codes "edit")) words at
-    → FirstMisfit words at
-edit-stopped [] at is stops = absurd (false≢true (ap is_some is))
-edit-stopped (word ∷ words) at is stops =
-    stopped (codes "edit") (AFile ∷ []) edit-form word words at (same is) stops
-
-pub recover-stopped : (words : List (List ℕ)) (at : ℕ)
-    → slice_get words 0 ≡ Some (codes "recover") → Stops (file_form (codes "recover")) words at
-    → FirstMisfit words at
-recover-stopped [] at is stops = absurd (false≢true (ap is_some is))
-recover-stopped (word ∷ words) at is stops =
-    stopped (codes "recover") (AFile ∷ []) recover-form word words at (same is) stops
+-- the first word of a form, and then the place at which its words stop being one
+pub form-stopped : (lead : List ℕ) (parts : List Part) → IsForm lead parts
+    → (words : List (List ℕ)) (at : ℕ) → slice_get words 0 ≡ Some lead
+    → Stops (Lead lead ∷ parts) words at → FirstMisfit words at
+form-stopped lead parts form [] at is stops = absurd (false≢true (ap is_some is))
+form-stopped lead parts form (word ∷ words) at is stops =
+    stopped lead parts form word words at (same is) stops
 
 -- ---- the first word is missing, or is no command's
 
@@ -164,26 +188,31 @@ unlike word lead other =
     ⊎_elim (λ is. absurd (other ((bytes_eq-Decides word lead).0 is))) (λ no. no)
     (cases_Bool (bytes_eq word lead))
 
-unnamed : (word : List ℕ) → word ≢ codes "edit" → word ≢ codes "recover"
-    → command_of word ≡ None
-unnamed word edit recover =
-    let edit_no = unlike word (codes "edit") edit in
-    let recover_no = unlike word (codes "recover") recover in
-    rw edit_no (rw recover_no refl)
+-- no command's word
+pub record NoLead (word : List ℕ) : Type 0 where
+  pub edit : word ≢ codes "edit"
+  pub recover : word ≢ codes "recover"
+  pub gen : word ≢ codes "gen"
 
-other-word : (word : List ℕ) (words : List (List ℕ)) → word ≢ codes "edit"
-    → word ≢ codes "recover" → FirstMisfit (word ∷ words) 0
-other-word word words edit recover =
+unnamed : (word : List ℕ) (words : List (List ℕ)) → NoLead word → command_of word words ≡ None
+unnamed word words other =
+    let edit_no = unlike word (codes "edit") other.edit in
+    let recover_no = unlike word (codes "recover") other.recover in
+    let gen_no = unlike word (codes "gen") other.gen in
+    rw edit_no (rw recover_no (rw gen_no refl))
+
+other-word : (word : List ℕ) (words : List (List ℕ)) → NoLead word → FirstMisfit (word ∷ words) 0
+other-word word words other =
     let no = λ (more : List (List ℕ)) (is : IsCommand (word ∷ more)).
-    false≢true (ap is_some (sym (unnamed word edit recover) ∙ command-of word more is.0 is.1)) in
+    false≢true (ap is_some (sym (unnamed word more other) ∙ command-of word more is.0 is.1)) in
     misfit (word ∷ words) 0 (no words) (omega arith) begins-nothing
     (λ inside begins. no begins.more begins.whole)
 
 pub no-command : (word : List ℕ) (words : List (List ℕ)) → slice_get words 0 ≡ Some word
-    → word ≢ codes "edit" → word ≢ codes "recover" → FirstMisfit words 0
-no-command word [] is edit recover = no-word [] refl
-no-command word (first ∷ words) is edit recover =
-    subst (λ w. FirstMisfit (w ∷ words) 0) (sym (same is)) (other-word word words edit recover)
+    → NoLead word → FirstMisfit words 0
+no-command word [] is other = no-word [] refl
+no-command word (first ∷ words) is other =
+    subst (λ w. FirstMisfit (w ∷ words) 0) (sym (same is)) (other-word word words other)
 
 -- ---- all words are a command, or have a first misfit
 
@@ -201,31 +230,9 @@ pub read : (words : List (List ℕ)) → IsRead words
 read [] = inr (0, no-word [] refl)
 read (word ∷ words) =
     by-lead word (codes "edit")
-    (λ is. read-form (codes "edit") (AFile ∷ []) edit-form word words is)
+    (λ is. read-form _ _ edit-form word words is)
     (λ edit. by-lead word (codes "recover")
-    (λ is. read-form (codes "recover") (AFile ∷ []) recover-form word words is)
-    (λ recover. inr (0, other-word word words edit recover)))
-
--- ---- the words of a command of a file
-
-pub file-missing : (lead : List ℕ) (words : List (List ℕ)) → slice_get words 0 ≡ Some lead
-    → IfSome (slice_get words 1) (λ name. name ≡ []) → Stops (file_form lead) words 1
-file-missing lead [] is empty = absurd (false≢true (ap is_some is))
-file-missing lead (word ∷ []) is empty = (same is, refl)
-file-missing lead (word ∷ name ∷ words) is empty = (same is, (λ named. named empty))
-
-pub one-too-many : (lead : List ℕ) (words : List (List ℕ)) → slice_get words 0 ≡ Some lead
-    → IsSomeAnd (slice_get words 1) (λ name. name ≢ []) → IsSome (slice_get words 2)
-    → Stops (file_form lead) words 2
-one-too-many lead [] is named more = absurd named
-one-too-many lead (word ∷ []) is named more = absurd named
-one-too-many lead (word ∷ name ∷ []) is named more = absurd (false≢true more)
-one-too-many lead (word ∷ name ∷ other ∷ words) is named more = (same is, (named, refl))
-
-pub spelled-file : (lead : List ℕ) (words : List (List ℕ)) → slice_get words 0 ≡ Some lead
-    → IsSomeAnd (slice_get words 1) (λ name. name ≢ []) → IsNone (slice_get words 2)
-    → SpellsFile lead words 1
-spelled-file lead [] is named none = absurd named
-spelled-file lead (word ∷ []) is named none = absurd named
-spelled-file lead (word ∷ name ∷ []) is named none = ((same is, (named, tt)), refl)
-spelled-file lead (word ∷ name ∷ other ∷ words) is named none = absurd (false≢true (sym none))
+    (λ is. read-form _ _ recover-form word words is)
+    (λ recover. by-lead word (codes "gen")
+    (λ is. read-form _ _ gen-form word words is)
+    (λ gen. inr (0, other-word word words (record { edit = edit; recover = recover; gen = gen })))))

@@ -1,8 +1,11 @@
 -- Worked examples of the definitions.
-use Rattle.std.proofs.Common.{◌≡◌, ◌≢◌, ℕ, List, [], ◌∷◌, length, Some, codes, refl, ap, arith}
+use Rattle.std.proofs.Common.{◌≡◌, ◌≢◌, ◌≤◌, ◌-◌, ◌^◌, ℕ, List, [], ◌∷◌, length, Some, None, codes, refl, ap, arith, rules}
+use Rattle.std.specs.Str.Parse.{IsNumeral, digits_value}
+use Rattle.kte_words.specs.Forms.{IsNumber}
 use Rattle.kte_words.specs.Words.{Spells, FirstMisfit, file_of}
-use Rattle.kte_words.specs.declared.words.Words.TheVariants.{Edit, Recover}
-use Rattle.kte_words.proofs.CommandLemmas.{no-command, no-word, edit-stopped, recover-stopped}
+use Rattle.kte_words.specs.declared.TheConstants.{MAX_COUNT, MAX_DIGITS}
+use Rattle.kte_words.specs.declared.words.Words.TheVariants.{Edit, Recover, Gen}
+use Rattle.kte_words.proofs.CommandLemmas.{form-stopped, edit-form, recover-form, gen-form, no-command, no-word}
 
 abbrev a : List ℕ
 a = codes "a"
@@ -31,27 +34,114 @@ nothing : FirstMisfit [] 0
 nothing = no-word [] refl
 
 empty_word : FirstMisfit ([] ∷ []) 0
-empty_word = no-command [] ([] ∷ []) refl (λ is. omega (arith, ap length is)) (λ is. omega (arith, ap length is))
+empty_word = no-command [] ([] ∷ []) refl (record {
+  edit = λ is. omega (arith, ap length is);
+  recover = λ is. omega (arith, ap length is);
+  gen = λ is. omega (arith, ap length is);
+})
 
 longer_word : FirstMisfit (codes "edits" ∷ a ∷ []) 0
-longer_word = no-command (codes "edits") (codes "edits" ∷ a ∷ []) refl (λ is. omega (arith, ap length is)) (λ is. omega (arith, ap length is))
+longer_word = no-command (codes "edits") (codes "edits" ∷ a ∷ []) refl (record {
+  edit = λ is. omega (arith, ap length is);
+  recover = λ is. omega (arith, ap length is);
+  gen = λ is. omega (arith, ap length is);
+})
 
 -- a missing file, and an empty one, also before a word too many
 file_missing : FirstMisfit (codes "edit" ∷ []) 1
-file_missing = edit-stopped (codes "edit" ∷ []) 1 refl (refl, refl)
+file_missing = form-stopped _ _ edit-form (codes "edit" ∷ []) 1 refl (refl, refl)
 
 file_empty : FirstMisfit (codes "recover" ∷ [] ∷ []) 1
-file_empty = recover-stopped (codes "recover" ∷ [] ∷ []) 1 refl (refl, (λ named. named refl))
+file_empty = form-stopped _ _ recover-form (codes "recover" ∷ [] ∷ []) 1 refl (refl, (λ named. named refl))
 
 file_empty_before_more : FirstMisfit (codes "edit" ∷ [] ∷ a ∷ []) 1
 file_empty_before_more =
-    edit-stopped (codes "edit" ∷ [] ∷ a ∷ []) 1 refl (refl, (λ named. named refl))
+    form-stopped _ _ edit-form (codes "edit" ∷ [] ∷ a ∷ []) 1 refl (refl, (λ named. named refl))
 
 -- one word and two words too many
 one_too_many : FirstMisfit (codes "recover" ∷ a ∷ codes "b" ∷ []) 2
 one_too_many =
-    recover-stopped (codes "recover" ∷ a ∷ codes "b" ∷ []) 2 refl (refl, (a-named, refl))
+    form-stopped _ _ recover-form (codes "recover" ∷ a ∷ codes "b" ∷ []) 2 refl (refl, (a-named, refl))
 
 two_too_many : FirstMisfit (codes "edit" ∷ a ∷ [] ∷ codes "b" ∷ []) 2
 two_too_many =
-    edit-stopped (codes "edit" ∷ a ∷ [] ∷ codes "b" ∷ []) 2 refl (refl, (a-named, refl))
+    form-stopped _ _ edit-form (codes "edit" ∷ a ∷ [] ∷ codes "b" ∷ []) 2 refl (refl, (a-named, refl))
+
+-- ---- numbers
+
+number : (least most : ℕ) (word : List ℕ) → IsNumeral 10 word → length word ≤ MAX_DIGITS
+    → least ≤ digits_value 10 word → digits_value 10 word ≤ most → IsNumber least most word
+number least most word digits short at_least at_most =
+    record { digits = digits; short = short; at_least = at_least; at_most = at_most }
+
+seven : IsNumber 0 (2 ^ 64 - 1) (codes "7")
+seven = number _ _ _ (search rules) (omega arith) (omega arith) (omega arith)
+
+one : IsNumber 1 MAX_COUNT (codes "1")
+one = number _ _ _ (search rules) (omega arith) (omega arith) (omega arith)
+
+generates : Spells (codes "gen" ∷ codes "7" ∷ codes "1" ∷ []) (Gen 7 1)
+generates = ((refl, (seven, (one, tt))), refl, refl)
+
+generated_file : file_of (Gen 7 1) ≡ None
+generated_file = refl
+
+-- the greatest number and the greatest count, and zeros in front
+greatest : IsNumber 0 (2 ^ 64 - 1) (codes "18446744073709551615")
+greatest = number _ _ _ (search rules) (omega arith) (omega arith) (omega arith)
+
+greatest_value : digits_value 10 (codes "18446744073709551615") ≡ 2 ^ 64 - 1
+greatest_value = refl
+
+most : IsNumber 1 MAX_COUNT (codes "00000000000000100000")
+most = number _ _ _ (search rules) (omega arith) (omega arith) (omega arith)
+
+most_value : digits_value 10 (codes "00000000000000100000") ≡ 100000
+most_value = refl
+
+generates_most : Spells (codes "gen" ∷ codes "18446744073709551615" ∷ codes "00000000000000100000" ∷ []) (Gen 18446744073709551615 100000)
+generates_most = ((refl, (greatest, (most, tt))), refl, refl)
+
+-- a missing number, a letter, a number that is too large, and one of 21 digits
+number_missing : FirstMisfit (codes "gen" ∷ []) 1
+number_missing = form-stopped _ _ gen-form (codes "gen" ∷ []) 1 refl (refl, refl)
+
+letter : FirstMisfit (codes "gen" ∷ codes "x" ∷ codes "1" ∷ []) 1
+letter =
+    form-stopped _ _ gen-form (codes "gen" ∷ codes "x" ∷ codes "1" ∷ []) 1 refl
+    (refl, (λ is. omega (arith, is.digits.1.0)))
+
+signed : FirstMisfit (codes "gen" ∷ codes "+7" ∷ codes "1" ∷ []) 1
+signed =
+    form-stopped _ _ gen-form (codes "gen" ∷ codes "+7" ∷ codes "1" ∷ []) 1 refl
+    (refl, (λ is. omega (arith, is.digits.1.0)))
+
+too_large : FirstMisfit (codes "gen" ∷ codes "18446744073709551616" ∷ codes "1" ∷ []) 1
+too_large =
+    form-stopped _ _ gen-form (codes "gen" ∷ codes "18446744073709551616" ∷ codes "1" ∷ []) 1 refl
+    (refl, (λ is. omega (arith, is.at_most)))
+
+too_long : FirstMisfit (codes "gen" ∷ codes "000000000000000000007" ∷ codes "1" ∷ []) 1
+too_long =
+    form-stopped _ _ gen-form (codes "gen" ∷ codes "000000000000000000007" ∷ codes "1" ∷ []) 1 refl
+    (refl, (λ is. omega (arith, is.short)))
+
+-- a missing count, a count of 0, one command too many, and a word too many
+count_missing : FirstMisfit (codes "gen" ∷ codes "7" ∷ []) 2
+count_missing =
+    form-stopped _ _ gen-form (codes "gen" ∷ codes "7" ∷ []) 2 refl (refl, (seven, refl))
+
+no_commands : FirstMisfit (codes "gen" ∷ codes "7" ∷ codes "0" ∷ []) 2
+no_commands =
+    form-stopped _ _ gen-form (codes "gen" ∷ codes "7" ∷ codes "0" ∷ []) 2 refl
+    (refl, (seven, (λ is. omega (arith, is.at_least))))
+
+too_many : FirstMisfit (codes "gen" ∷ codes "7" ∷ codes "100001" ∷ []) 2
+too_many =
+    form-stopped _ _ gen-form (codes "gen" ∷ codes "7" ∷ codes "100001" ∷ []) 2 refl
+    (refl, (seven, (λ is. omega (arith, is.at_most))))
+
+one_word_more : FirstMisfit (codes "gen" ∷ codes "7" ∷ codes "1" ∷ codes "x" ∷ []) 3
+one_word_more =
+    form-stopped _ _ gen-form (codes "gen" ∷ codes "7" ∷ codes "1" ∷ codes "x" ∷ []) 3 refl
+    (refl, (seven, (one, refl)))

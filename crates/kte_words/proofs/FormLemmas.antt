@@ -1,27 +1,24 @@
 -- Words and the parts of a form.
-use Rattle.std.proofs.Common.{◌⊎◌, ⊎_elim, inl, inr, ℕ, zero, suc, ◌<◌, ◌≤◌, List, [], ◌∷◌, ◌++◌, length, take, subst, sym, refl, ap, codes, arith}
-use Rattle.std.proofs.lemmas.Bool.{cases_Bool, iff_false}
+use Rattle.std.proofs.Common.{◌⊎◌, ⊎_elim, inl, inr, ℕ, zero, suc, ◌<◌, ◌≤◌, List, [], ◌∷◌, ◌++◌, length, take, subst, sym, refl, ap, arith}
+use Rattle.std.proofs.lemmas.Bool.{cases_Bool, cases_lt, iff_false}
 use Rattle.std.proofs.lemmas.Slice.Eq.{bytes_eq-Decides}
+use Rattle.std.specs.Char.{digit_value}
 use Rattle.std.specs.Str.{bytes_eq}
-use Rattle.kte_words.specs.Forms.{Part, Lead, AFile, Is, Are, Stops}
+use Rattle.std.specs.Str.Parse.{AllDigits, digits_value}
+use Rattle.kte_words.specs.Forms.{Part, Lead, AFile, ANumber, IsNumber, Is, Are, Stops}
+use Rattle.kte_words.specs.declared.TheConstants.{MAX_DIGITS}
 
--- ---- each part has a word
+-- ---- parts that have words
 
-abbrev sample : Part → List ℕ
-sample (Lead text) = text
-sample AFile = codes "f"
+-- each part has a word
+abbrev pub HaveWords : List Part → Type 0
+HaveWords [] = Unit {0}
+HaveWords (part ∷ parts) = ((word : List ℕ) × Is part word) × HaveWords parts
 
-sample-is : (part : Part) → Is part (sample part)
-sample-is (Lead text) = refl
-sample-is AFile = λ is. omega (arith, ap length is)
-
-abbrev samples : List Part → List (List ℕ)
-samples [] = []
-samples (part ∷ parts) = sample part ∷ samples parts
-
-samples-are : (parts : List Part) → Are parts (samples parts)
-samples-are [] = tt
-samples-are (part ∷ parts) = (sample-is part, samples-are parts)
+samples : (parts : List Part) → HaveWords parts → (words : List (List ℕ)) × Are parts words
+samples [] have = ([], tt)
+samples (part ∷ parts) have =
+    let others = samples parts have.1 in (have.0.0 ∷ others.0, (have.0.1, others.1))
 
 -- ---- the front of words that begins a form
 
@@ -47,18 +44,16 @@ stops-are (part ∷ parts) (word ∷ words) zero other are = other are.0
 stops-are (part ∷ parts) (word ∷ words) (suc at) stops are =
     stops-are parts words at stops.1 are.1
 
-pub stops-before : (parts : List Part) (words : List (List ℕ)) (at : ℕ) → Stops parts words at
-    → BeginsForm parts (take at words)
-stops-before [] [] at stops = absurd stops
-stops-before [] (word ∷ words) at is =
+pub stops-before : (parts : List Part) (words : List (List ℕ)) (at : ℕ) → HaveWords parts
+    → Stops parts words at → BeginsForm parts (take at words)
+stops-before [] [] at have stops = absurd stops
+stops-before [] (word ∷ words) at have is =
     subst (λ n. BeginsForm [] (take n (word ∷ words))) (sym is) ([], tt)
-stops-before (part ∷ parts) [] at is =
-    subst (λ n. BeginsForm (part ∷ parts) (take n [])) (sym is)
-    (samples (part ∷ parts), samples-are (part ∷ parts))
-stops-before (part ∷ parts) (word ∷ words) zero other =
-    (samples (part ∷ parts), samples-are (part ∷ parts))
-stops-before (part ∷ parts) (word ∷ words) (suc at) stops =
-    let before = stops-before parts words at stops.1 in
+stops-before (part ∷ parts) [] at have is =
+    subst (λ n. BeginsForm (part ∷ parts) (take n [])) (sym is) (samples (part ∷ parts) have)
+stops-before (part ∷ parts) (word ∷ words) zero have other = samples (part ∷ parts) have
+stops-before (part ∷ parts) (word ∷ words) (suc at) have stops =
+    let before = stops-before parts words at have.1 stops.1 in
     (before.0, (stops.0, before.1))
 
 pub stops-next : (parts : List Part) (words : List (List ℕ)) (at : ℕ) → Stops parts words at
@@ -76,6 +71,33 @@ stops-next (part ∷ parts) (word ∷ words) (suc at) stops inside begins =
 abbrev Decided : Type 0 → Type 0
 Decided A = A ⊎ ¬ A
 
+both-or-not : {A B : Type 0} → Decided A → Decided B → Decided (A × B)
+both-or-not a b =
+    ⊎_elim (λ one. ⊎_elim (λ two. inl (one, two)) (λ no. inr (λ is. no is.1)) b)
+    (λ no. inr (λ is. no is.0)) a
+
+less-or-not : (m n : ℕ) → Decided (m < n)
+less-or-not m n = ⊎_elim (λ less. inl less) (λ no. inr (λ less. omega arith)) (cases_lt m n)
+
+most-or-not : (m n : ℕ) → Decided (m ≤ n)
+most-or-not m n = ⊎_elim (λ more. inr (λ most. omega arith)) (λ most. inl most) (cases_lt n m)
+
+digits-or-not : (word : List ℕ) → Decided (AllDigits 10 word)
+digits-or-not [] = inl tt
+digits-or-not (byte ∷ bytes) =
+    both-or-not (less-or-not (digit_value byte) 10) (digits-or-not bytes)
+
+number-or-not : (least most : ℕ) (word : List ℕ) → Decided (IsNumber least most word)
+number-or-not least most word =
+    let value = digits_value 10 word in
+    ⊎_elim
+    (λ is. inl (record { digits = is.0.0; short = is.0.1; at_least = is.1.0; at_most = is.1.1 }))
+    (λ no. inr (λ is. no ((is.digits, is.short), (is.at_least, is.at_most))))
+    (both-or-not
+    (both-or-not (both-or-not (less-or-not 0 (length word)) (digits-or-not word))
+    (most-or-not (length word) MAX_DIGITS))
+    (both-or-not (most-or-not least value) (most-or-not value most)))
+
 is-or-not : (part : Part) (word : List ℕ) → Decided (Is part word)
 is-or-not (Lead text) word =
     let decides = bytes_eq-Decides word text in
@@ -83,6 +105,7 @@ is-or-not (Lead text) word =
     (cases_Bool (bytes_eq word text))
 is-or-not AFile [] = inr (λ named. named refl)
 is-or-not AFile (byte ∷ bytes) = inl (λ empty. omega (arith, ap length empty))
+is-or-not (ANumber least most) word = number-or-not least most word
 
 -- the words are the parts, or stop being them
 abbrev pub AreOrStop : List Part → List (List ℕ) → Type 0

@@ -1,4 +1,6 @@
 pub mod MisfitLemmas
 pub mod FormLemmas
+pub mod NumberLemmas
 pub mod CommandLemmas
+pub mod CallerLemmas
 mod Examples

@@ -22,3 +22,9 @@ mod words;
 pub use parsing::{BadWords, parse};
 pub use word::Word;
 pub use words::Words;
+
+/// The most digits of a number, zeros in front included.
+pub const MAX_DIGITS: usize = 20;
+
+/// The greatest count of `gen`: the most commands of a script.
+pub const MAX_COUNT: u32 = 100_000;

@@ -1,5 +1,14 @@
 use crate::{BadWords, Word, Words, parse};
+use std::alloc::{AllocError, Global};
 use std::test::Fail;
+
+fn read(alloc: Global, texts: &[&str]) -> Result<Result<Words, BadWords>, AllocError> {
+    let mut words = Vec::new(alloc);
+    for text in texts {
+        words.push(Word::new(text.to_string(alloc)?))?;
+    }
+    Ok(parse(&words))
+}
 
 #[test]
 fn words_are_read(rt: HostRuntime) -> Result<(), Fail> {
@@ -23,11 +32,61 @@ fn words_are_read(rt: HostRuntime) -> Result<(), Fail> {
         (&["edit", "notes.txt", "", ""], Err(BadWords { at: 2 })),
     ];
     for (texts, want) in table {
-        let mut words = Vec::new(alloc);
-        for text in texts {
-            words.push(Word::new(text.to_string(alloc)?))?;
-        }
-        assert_eq!(rt; parse(&words), want);
+        assert_eq!(rt; read(alloc, texts)?, want);
+    }
+    Ok(())
+}
+
+#[test]
+fn numbers_are_read(rt: HostRuntime) -> Result<(), Fail> {
+    let alloc = rt.alloc();
+    let table: [(&[&str], Result<Words, BadWords>); 16] = [
+        (
+            &["gen", "7", "20000"],
+            Ok(Words::Gen {
+                number: 7,
+                count: 20_000,
+            }),
+        ),
+        (
+            &["gen", "18446744073709551615", "100000"],
+            Ok(Words::Gen {
+                number: u64::MAX,
+                count: 100_000,
+            }),
+        ),
+        (
+            &["gen", "00000000000000000000", "00000000000000000001"],
+            Ok(Words::Gen {
+                number: 0,
+                count: 1,
+            }),
+        ),
+        (&["gen"], Err(BadWords { at: 1 })),
+        (&["gen", "7"], Err(BadWords { at: 2 })),
+        (&["gen", "", "1"], Err(BadWords { at: 1 })),
+        (&["gen", "x", "1"], Err(BadWords { at: 1 })),
+        (&["gen", "+7", "1"], Err(BadWords { at: 1 })),
+        (&["gen", " 7", "x"], Err(BadWords { at: 1 })),
+        (
+            &["gen", "18446744073709551616", "1"],
+            Err(BadWords { at: 1 }),
+        ),
+        (
+            &["gen", "000000000000000000007", "1"],
+            Err(BadWords { at: 1 }),
+        ),
+        (&["gen", "0", "0"], Err(BadWords { at: 2 })),
+        (&["gen", "0", "100001"], Err(BadWords { at: 2 })),
+        (
+            &["gen", "0", "000000000000000000001"],
+            Err(BadWords { at: 2 }),
+        ),
+        (&["gen", "0", "1", "x"], Err(BadWords { at: 3 })),
+        (&["gens", "0", "1"], Err(BadWords { at: 0 })),
+    ];
+    for (texts, want) in table {
+        assert_eq!(rt; read(alloc, texts)?, want);
     }
     Ok(())
 }
@@ -44,6 +103,11 @@ fn the_file_is_a_word(rt: HostRuntime) -> Result<(), Fail> {
         assert_eq!(rt; file, Some(1));
         assert_eq!(rt; words[1].as_str(), "notes.txt");
     }
+    let script = Words::Gen {
+        number: 0,
+        count: 1,
+    };
+    assert_eq!(rt; script.file(), None);
     Ok(())
 }
 

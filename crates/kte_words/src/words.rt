@@ -14,6 +14,14 @@ pub enum Words {
         /// The index, from 0, of the word that names the file.
         file: u32,
     },
+    /// `gen NUMBER COUNT`: makes a script, edits an empty text in memory with it, recovers its swap
+    /// file and prints a summary.
+    Gen {
+        /// The number that the script is made from.
+        number: u64,
+        /// The number of commands of the script, from 1 to [`MAX_COUNT`](crate::MAX_COUNT).
+        count: u32,
+    },
 }
 
 impl Words {
@@ -23,6 +31,7 @@ impl Words {
     {
         match self {
             Words::Edit { file } | Words::Recover { file } => Some(*file),
+            Words::Gen { .. } => None,
         }
     }
 }

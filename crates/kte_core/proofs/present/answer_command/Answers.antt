@@ -11,6 +11,6 @@ pub returns-clause-answers : goal.returns-clause-answers
 returns-clause-answers c =
     if_ok c.carry_out.result _ _
     (λ step meets state seat shows.
-    Answers-open state seat c.args.command.now step c.args.present.now c.carry_out.new.doc c.carry_out.new.undo c.carry_out.new.jobs shows
-    c.if-present.false (meets state shows.document shows.edits shows.jobs))
+    Answers-open state seat c.args.command.now step c.args.present.now c.carry_out.new.doc c.carry_out.new.undo c.carry_out.new.jobs c.carry_out.new.folds shows
+    c.if-present.false (meets state shows.document shows.edits shows.jobs) (c.carry_out.ensures.folds state shows.document))
     c.carry_out.ensures.meets

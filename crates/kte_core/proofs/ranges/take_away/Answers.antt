@@ -1,9 +1,14 @@
-use Rattle.std.proofs.Common.{ap}
-use Rattle.kte_core.proofs.RangeLemmas.{Replies-drop}
+use Rattle.std.proofs.Common.{sym, ◌∙◌}
+use Rattle.kte_core.proofs.RangeLemmas.{Replies-take_away}
+use Rattle.kte_core.proofs.FoldStepLemmas.{KeepsFolds-taken}
 use Rattle.kte_core.proofs.ranges.take_away.Goals as goal
 
-pub returns-in-Ok : goal.returns-in-Ok
-returns-in-Ok c = λ state is_of.
-    Replies-drop state c.args.doc.now c.drop_range.new.self c.args.id is_of
-    (λ none. let refused = rw none at c.in-Ok.ensures.found in cc)
-    c.drop_range.ensures.trail (ap (λ d. d.limit) c.in-Ok.ensures.ok) (ap (λ d. d.ranges) c.in-Ok.ensures.ok) (ap (λ d. d.next) c.in-Ok.ensures.ok) (ap (λ d. d.locks) c.in-Ok.ensures.ok)
+pub returns-clause-replies : goal.returns-clause-replies
+returns-clause-replies c = λ state is_of.
+    Replies-take_away state c.args.doc.now c.drop_any.new.doc c.args.id c.drop_any.result is_of
+    (sym c.is_fold.ensures ∙ c.if-is_fold.false) c.drop_any.ensures.none c.drop_any.ensures.dropped c.drop_any.ensures.trail
+
+pub returns-clause-folds : goal.returns-clause-folds
+returns-clause-folds c =
+    KeepsFolds-taken c.args.doc.now c.drop_any.new.doc c.args.id (sym c.is_fold.ensures ∙ c.if-is_fold.false)
+    c.drop_any.ensures.none c.drop_any.ensures.dropped

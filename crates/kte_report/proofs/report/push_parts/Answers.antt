@@ -6,35 +6,33 @@ use Rattle.kte_report.proofs.report.push_parts.Goals as goal
 pub returns-clause-ok : goal.returns-clause-ok
 returns-clause-ok c =
     on_ok_weaker c.push_text.result
-    (reported (present c.args.core.now) c.doc-doc.result.now c.line_end-eol.result.0 c.line_end-eol.result.1
-    c.digest_of_saved.result.0 c.args.out.now.items c.extend_from_slice.new.self.items c.push_counts.new.out.items
-    c.push_ranges.new.out.items c.push_number_line.new.out.items c.push_digest.new.out.items c.push_text.new.out.items
-    c.doc-doc.ensures c.line_end-eol.ensures.eol c.line_end-eol.ensures.bom c.digest_of_saved.ensures
-    c.in_ok-extend_from_slice.ensures.items c.in_ok-push_counts.ensures.ok c.in_ok-push_ranges.ensures.ok
-    c.in_ok-push_number_line.ensures.ok c.in_ok-push_digest.ensures.ok)
+    (reported (present c.args.core.now) c.doc-doc.result.now c.args.out.now.items c.extend_from_slice.new.self.items
+    c.push_counts.new.out.items c.push_ranges.new.out.items c.push_hidden.new.out.items c.push_saved_digest.new.out.items
+    c.push_text.new.out.items c.doc-doc.ensures c.in_ok-extend_from_slice.ensures.items c.in_ok-push_counts.ensures.ok
+    c.in_ok-push_ranges.ensures.ok c.in_ok-push_hidden.ensures.ok c.in_ok-push_saved_digest.ensures.ok)
     c.push_text.ensures.ok
 
-pub returns-in_err-push_number_line-clause-err : goal.returns-in_err-push_number_line-clause-err
-returns-in_err-push_number_line-clause-err c =
-    let is = err_from_is_err_and c.from_residual-in_err-push_number_line.result c.from_residual-in_err-push_number_line.ensures.1 in
+pub returns-in_err-push_hidden-clause-err : goal.returns-in_err-push_hidden-clause-err
+returns-in_err-push_hidden-clause-err c =
+    let is = err_from_is_err_and c.from_residual-in_err-push_hidden.result c.from_residual-in_err-push_hidden.ensures.1 in
     rw is.1
     (keeps_three _ _ _ _ c.extend_from_slice.new.self.items c.push_counts.new.out.items c.push_ranges.new.out.items _
     c.in_ok-extend_from_slice.ensures.items c.in_ok-push_counts.ensures.ok c.in_ok-push_ranges.ensures.ok
-    c.in_err-push_number_line.ensures.err)
+    c.in_err-push_hidden.ensures.err)
 
-pub returns-in_err-push_digest-clause-err : goal.returns-in_err-push_digest-clause-err
-returns-in_err-push_digest-clause-err c =
-    let is = err_from_is_err_and c.from_residual-in_err-push_digest.result c.from_residual-in_err-push_digest.ensures.1 in
+pub returns-in_err-push_saved_digest-clause-err : goal.returns-in_err-push_saved_digest-clause-err
+returns-in_err-push_saved_digest-clause-err c =
+    let is = err_from_is_err_and c.from_residual-in_err-push_saved_digest.result c.from_residual-in_err-push_saved_digest.ensures.1 in
     rw is.1
     (keeps_four _ _ _ _ _ c.extend_from_slice.new.self.items c.push_counts.new.out.items c.push_ranges.new.out.items
-    c.push_number_line.new.out.items _ c.in_ok-extend_from_slice.ensures.items c.in_ok-push_counts.ensures.ok
-    c.in_ok-push_ranges.ensures.ok c.in_ok-push_number_line.ensures.ok c.in_err-push_digest.ensures.err)
+    c.push_hidden.new.out.items _ c.in_ok-extend_from_slice.ensures.items c.in_ok-push_counts.ensures.ok
+    c.in_ok-push_ranges.ensures.ok c.in_ok-push_hidden.ensures.ok c.in_err-push_saved_digest.ensures.err)
 
 pub returns-clause-err : goal.returns-clause-err
 returns-clause-err c =
     on_err_weaker c.push_text.result
     (keeps_five _ _ _ _ _ _ c.extend_from_slice.new.self.items c.push_counts.new.out.items c.push_ranges.new.out.items
-    c.push_number_line.new.out.items c.push_digest.new.out.items _ c.in_ok-extend_from_slice.ensures.items
-    c.in_ok-push_counts.ensures.ok c.in_ok-push_ranges.ensures.ok c.in_ok-push_number_line.ensures.ok
-    c.in_ok-push_digest.ensures.ok)
+    c.push_hidden.new.out.items c.push_saved_digest.new.out.items _ c.in_ok-extend_from_slice.ensures.items
+    c.in_ok-push_counts.ensures.ok c.in_ok-push_ranges.ensures.ok c.in_ok-push_hidden.ensures.ok
+    c.in_ok-push_saved_digest.ensures.ok)
     c.push_text.ensures.err

@@ -9,6 +9,9 @@ returns-in-RevisionsFull-clause-ok c = rw c.in-RevisionsFull.is c.push_numbers-i
 pub returns-in-NoRange-clause-ok : goal.returns-in-NoRange-clause-ok
 returns-in-NoRange-clause-ok c = rw c.in-NoRange.is c.push_numbers-in-NoRange.ensures.ok
 
+pub returns-in-NoFold-clause-ok : goal.returns-in-NoFold-clause-ok
+returns-in-NoFold-clause-ok c = rw c.in-NoFold.is c.push_numbers-in-NoFold.ensures.ok
+
 pub returns-in-NotLocked-clause-ok : goal.returns-in-NotLocked-clause-ok
 returns-in-NotLocked-clause-ok c = rw c.in-NotLocked.is c.push_notlocked.ensures.ok
 

@@ -24,6 +24,9 @@ returns-in-Unlocked-clause-ok c = rw c.in-Unlocked.is c.push_numbers-in-Unlocked
 pub returns-in-Landed-clause-ok : goal.returns-in-Landed-clause-ok
 returns-in-Landed-clause-ok c = rw c.in-Landed.is c.push_landed.ensures.ok
 
+pub returns-in-Found-clause-ok : goal.returns-in-Found-clause-ok
+returns-in-Found-clause-ok c = rw c.in-Found.is c.push_found.ensures.ok
+
 pub returns-in-Posted-clause-ok : goal.returns-in-Posted-clause-ok
 returns-in-Posted-clause-ok c = rw (c.in-Posted.is, ← c.from-in-Posted.ensures) c.push_numbers-in-Posted.ensures.ok
 

@@ -9,7 +9,9 @@ use Rattle.kte_swap.specs.declared.causes.SwapState.TheVariants.{Guarded}
 use Rattle.kte_run.specs.Run.{outside}
 use Rattle.kte_run.proofs.Files.{later}
 use Rattle.kte_run.proofs.Answering.{Edits, ends-at-script, ends-at-swap, ends-at-file, ends-in-edit, ends-written, ends-unwritten, err_same, spells-from}
+use Rattle.kte_run.proofs.program.edit_alone.Given.{Over}
 use Rattle.kte_run.proofs.program.edit_alone.Goals as goal
+use Rattle.kte_run.proofs.program.edit_alone.Goals.{After-new-swap}
 
 pub returns-in-Err : goal.returns-in-Err
 returns-in-Err g c =
@@ -52,14 +54,14 @@ edited-requires-clause-few g c = c.in-Ok.ensures.few
 pub edited-requires-clause-guarded : goal.edited-requires-clause-guarded
 edited-requires-clause-guarded g c = ap (λ (swap : SwapView). swap.state) c.new-swap.ensures.new
 
-pub returns-in_default-edited : goal.returns-in_default-edited
-returns-in_default-edited g c =
+-- what is known once the file is loaded
+edits : (g : Over) (c : After-new-swap g) → Edits (outside (g.S.Source.left c.args.script.now) (g.S.Source.faults c.args.script.now) (g.D.Disk.moments c.args.disk.now) (g.D.Disk.faults c.args.disk.now) (g.O.Sink.got c.args.out.now) (g.O.Sink.faults c.args.out.now))
+    (g.S.Source.left c.read_commands.new.script) (g.S.Source.faults c.read_commands.new.script) (record { faults = g.D.Disk.faults c.load_saved.new.disk; moments = g.D.Disk.moments c.load_saved.new.disk }) c.in-Ok.commands.items
+    c.in-Ok-load_saved.saved.0.items c.in-Ok-load_saved.saved.1 c.new-swap.result
+edits g c =
     let old = g.D.Disk.moments c.args.disk.now in
     let seen = g.D.Disk.moments c.check_no_swap.new.disk in
     let files = c.check_no_swap.ensures.files in
-    let edits : Edits (outside (g.S.Source.left c.args.script.now) (g.S.Source.faults c.args.script.now) (g.D.Disk.moments c.args.disk.now) (g.D.Disk.faults c.args.disk.now) (g.O.Sink.got c.args.out.now) (g.O.Sink.faults c.args.out.now))
-    (g.S.Source.left c.read_commands.new.script) (g.S.Source.faults c.read_commands.new.script) (record { faults = g.D.Disk.faults c.load_saved.new.disk; moments = g.D.Disk.moments c.load_saved.new.disk }) c.in-Ok.commands.items
-    c.in-Ok-load_saved.saved.0.items c.in-Ok-load_saved.saved.1 c.new-swap.result =
     record {
       whole = c.in-Ok.ensures.whole;
       calm = c.in-Ok.ensures.calm;
@@ -71,35 +73,20 @@ returns-in_default-edited g c =
       loads = c.in-Ok-load_saved.ensures.loads.0;
       loadable = c.in-Ok-load_saved.ensures.loads.1;
       beside = c.new-swap.ensures.new ∙ ap (λ (base : List ℕ). record { base = base; state = Guarded; count = 0 }) (c.digest.ensures ∙ ap (λ (bytes : List ℕ). digest_of bytes) c.deref.ensures.value);
-    } in
+    }
+
+pub returns-in_default-edited : goal.returns-in_default-edited
+returns-in_default-edited g c =
     ends-in-edit (outside (g.S.Source.left c.args.script.now) (g.S.Source.faults c.args.script.now) (g.D.Disk.moments c.args.disk.now) (g.D.Disk.faults c.args.disk.now) (g.O.Sink.got c.args.out.now) (g.O.Sink.faults c.args.out.now))
     (g.S.Source.left c.read_commands.new.script) (g.S.Source.faults c.read_commands.new.script) (record { faults = g.D.Disk.faults c.load_saved.new.disk; moments = g.D.Disk.moments c.load_saved.new.disk }) c.in-Ok.commands.items
-    c.in-Ok-load_saved.saved.0.items c.in-Ok-load_saved.saved.1 c.new-swap.result edits (record { faults = g.D.Disk.faults c.edited.new.disk; moments = g.D.Disk.moments c.edited.new.disk })
+    c.in-Ok-load_saved.saved.0.items c.in-Ok-load_saved.saved.1 c.new-swap.result (edits g (goal.at.returns-in_default-edited g c).After-new-swap) (record { faults = g.D.Disk.faults c.edited.new.disk; moments = g.D.Disk.moments c.edited.new.disk })
     (c.edited.new.disk ≡ c.args.disk.now) (c.args.out.now ≡ c.args.out.now) c.edited.ensures.reads
 
 pub returns-in-Ok-write_whole : goal.returns-in-Ok-write_whole
 returns-in-Ok-write_whole g c =
-    let old = g.D.Disk.moments c.args.disk.now in
-    let seen = g.D.Disk.moments c.check_no_swap.new.disk in
-    let files = c.check_no_swap.ensures.files in
-    let edits : Edits (outside (g.S.Source.left c.args.script.now) (g.S.Source.faults c.args.script.now) (g.D.Disk.moments c.args.disk.now) (g.D.Disk.faults c.args.disk.now) (g.O.Sink.got c.args.out.now) (g.O.Sink.faults c.args.out.now))
-    (g.S.Source.left c.read_commands.new.script) (g.S.Source.faults c.read_commands.new.script) (record { faults = g.D.Disk.faults c.load_saved.new.disk; moments = g.D.Disk.moments c.load_saved.new.disk }) c.in-Ok.commands.items
-    c.in-Ok-load_saved.saved.0.items c.in-Ok-load_saved.saved.1 c.new-swap.result =
-    record {
-      whole = c.in-Ok.ensures.whole;
-      calm = c.in-Ok.ensures.calm;
-      spelled = c.in-Ok.ensures.commands;
-      stays = λ call. c.in-Ok-load_saved.ensures.calm call ∙ c.in_default.ensures.calm call;
-      files = Staying-then old seen (g.D.Disk.moments c.load_saved.new.disk) files c.load_saved.ensures.files;
-      empty = c.in_default.ensures.empty;
-      saved = later (λ file. c.in-Ok-load_saved.saved.0.items ≡ file) (saved_now old) (saved_now seen) (saved_now-stays old seen files) c.in-Ok-load_saved.ensures.bytes;
-      loads = c.in-Ok-load_saved.ensures.loads.0;
-      loadable = c.in-Ok-load_saved.ensures.loads.1;
-      beside = c.new-swap.ensures.new ∙ ap (λ (base : List ℕ). record { base = base; state = Guarded; count = 0 }) (c.digest.ensures ∙ ap (λ (bytes : List ℕ). digest_of bytes) c.deref.ensures.value);
-    } in
     ends-written (outside (g.S.Source.left c.args.script.now) (g.S.Source.faults c.args.script.now) (g.D.Disk.moments c.args.disk.now) (g.D.Disk.faults c.args.disk.now) (g.O.Sink.got c.args.out.now) (g.O.Sink.faults c.args.out.now))
     (g.S.Source.left c.read_commands.new.script) (g.S.Source.faults c.read_commands.new.script) (record { faults = g.D.Disk.faults c.load_saved.new.disk; moments = g.D.Disk.moments c.load_saved.new.disk }) c.in-Ok.commands.items
-    c.in-Ok-load_saved.saved.0.items c.in-Ok-load_saved.saved.1 c.new-swap.result edits (record { faults = g.D.Disk.faults c.edited.new.disk; moments = g.D.Disk.moments c.edited.new.disk })
+    c.in-Ok-load_saved.saved.0.items c.in-Ok-load_saved.saved.1 c.new-swap.result (edits g (goal.at.returns-in-Ok-write_whole g c).After-new-swap) (record { faults = g.D.Disk.faults c.edited.new.disk; moments = g.D.Disk.moments c.edited.new.disk })
     (g.O.Sink.got c.write_whole.new.sink) (g.O.Sink.faults c.write_whole.new.sink)
     (c.edited.new.disk ≡ c.args.disk.now) (c.write_whole.new.sink ≡ c.args.out.now) c.in-Ok-edited.ending c.in-Ok-edited.output.items
     c.in-Ok-edited.ensures.prints c.in-Ok-edited.ensures.ended c.edited.ensures.reads
@@ -108,27 +95,9 @@ returns-in-Ok-write_whole g c =
 
 pub returns : goal.returns
 returns g c =
-    let old = g.D.Disk.moments c.args.disk.now in
-    let seen = g.D.Disk.moments c.check_no_swap.new.disk in
-    let files = c.check_no_swap.ensures.files in
-    let edits : Edits (outside (g.S.Source.left c.args.script.now) (g.S.Source.faults c.args.script.now) (g.D.Disk.moments c.args.disk.now) (g.D.Disk.faults c.args.disk.now) (g.O.Sink.got c.args.out.now) (g.O.Sink.faults c.args.out.now))
-    (g.S.Source.left c.read_commands.new.script) (g.S.Source.faults c.read_commands.new.script) (record { faults = g.D.Disk.faults c.load_saved.new.disk; moments = g.D.Disk.moments c.load_saved.new.disk }) c.in-Ok.commands.items
-    c.in-Ok-load_saved.saved.0.items c.in-Ok-load_saved.saved.1 c.new-swap.result =
-    record {
-      whole = c.in-Ok.ensures.whole;
-      calm = c.in-Ok.ensures.calm;
-      spelled = c.in-Ok.ensures.commands;
-      stays = λ call. c.in-Ok-load_saved.ensures.calm call ∙ c.in_default.ensures.calm call;
-      files = Staying-then old seen (g.D.Disk.moments c.load_saved.new.disk) files c.load_saved.ensures.files;
-      empty = c.in_default.ensures.empty;
-      saved = later (λ file. c.in-Ok-load_saved.saved.0.items ≡ file) (saved_now old) (saved_now seen) (saved_now-stays old seen files) c.in-Ok-load_saved.ensures.bytes;
-      loads = c.in-Ok-load_saved.ensures.loads.0;
-      loadable = c.in-Ok-load_saved.ensures.loads.1;
-      beside = c.new-swap.ensures.new ∙ ap (λ (base : List ℕ). record { base = base; state = Guarded; count = 0 }) (c.digest.ensures ∙ ap (λ (bytes : List ℕ). digest_of bytes) c.deref.ensures.value);
-    } in
     ends-unwritten (outside (g.S.Source.left c.args.script.now) (g.S.Source.faults c.args.script.now) (g.D.Disk.moments c.args.disk.now) (g.D.Disk.faults c.args.disk.now) (g.O.Sink.got c.args.out.now) (g.O.Sink.faults c.args.out.now))
     (g.S.Source.left c.read_commands.new.script) (g.S.Source.faults c.read_commands.new.script) (record { faults = g.D.Disk.faults c.load_saved.new.disk; moments = g.D.Disk.moments c.load_saved.new.disk }) c.in-Ok.commands.items
-    c.in-Ok-load_saved.saved.0.items c.in-Ok-load_saved.saved.1 c.new-swap.result edits (record { faults = g.D.Disk.faults c.edited.new.disk; moments = g.D.Disk.moments c.edited.new.disk })
+    c.in-Ok-load_saved.saved.0.items c.in-Ok-load_saved.saved.1 c.new-swap.result (edits g (goal.at.returns g c).After-new-swap) (record { faults = g.D.Disk.faults c.edited.new.disk; moments = g.D.Disk.moments c.edited.new.disk })
     (g.O.Sink.got c.write_whole.new.sink) (g.O.Sink.faults c.write_whole.new.sink)
     (c.edited.new.disk ≡ c.args.disk.now) (c.write_whole.new.sink ≡ c.args.out.now) c.from.result c.in-Ok-edited.ending c.in-Ok-edited.output.items c.in-Err-write_whole.fail
     c.from.ensures c.in-Ok-edited.ensures.prints c.edited.ensures.reads

@@ -1,8 +1,10 @@
-use Rattle.std.proofs.Common.{◌≡◌, ap, subst}
+use Rattle.std.proofs.Common.{◌≡◌, ℕ, refl, ap, subst}
 use Rattle.kte_words.specs.Words.{FirstMisfit}
 use Rattle.kte_words.specs.declared.words.Words.TheVariants as command
 use Rattle.kte_words.specs.declared.parsing.BadWords.{BadWords}
+use Rattle.kte_words.proofs.CallerLemmas.{count-within}
 use Rattle.kte_run.specs.declared.status.Status.TheVariants as status
+use Rattle.kte_run.specs.Generate.{IsGeneration}
 use Rattle.kte_run.proofs.program.run.Goals as goal
 
 pub returns-in-Err-clause-bad_words : goal.returns-in-Err-clause-bad_words
@@ -33,4 +35,54 @@ returns-in-Err-clause-edit g c = λ file spells.
 pub returns-in-Err-clause-recover : goal.returns-in-Err-clause-recover
 returns-in-Err-clause-recover g c = λ file spells.
     let other = (c.parse.ensures.command (command.Recover file)).1 spells in
+    absurd (cc (c.in-Err.is, other))
+
+pub generate-requires-clause-some : goal.generate-requires-clause-some
+generate-requires-clause-some g c =
+    let spells = (c.parse.ensures.command (command.Gen c.in-Ok-Gen.number c.in-Ok-Gen.count)).0 (cc (c.in-Ok-Gen.is, c.in-Ok-Gen.field-0-is)) in
+    (count-within c.args.words.now c.in-Ok-Gen.number c.in-Ok-Gen.count spells).0
+
+pub generate-requires-clause-most : goal.generate-requires-clause-most
+generate-requires-clause-most g c =
+    let spells = (c.parse.ensures.command (command.Gen c.in-Ok-Gen.number c.in-Ok-Gen.count)).0 (cc (c.in-Ok-Gen.is, c.in-Ok-Gen.field-0-is)) in
+    (count-within c.args.words.now c.in-Ok-Gen.number c.in-Ok-Gen.count spells).1
+
+pub returns-in-Ok-Gen-clause-generate : goal.returns-in-Ok-Gen-clause-generate
+returns-in-Ok-Gen-clause-generate g c = λ number count spells.
+    let other = (c.parse.ensures.command (command.Gen number count)).1 spells in
+    let same_number : c.in-Ok-Gen.number ≡ number = cc (c.in-Ok-Gen.is, c.in-Ok-Gen.field-0-is, other) in
+    let same_count : c.in-Ok-Gen.count ≡ count = cc (c.in-Ok-Gen.is, c.in-Ok-Gen.field-0-is, other) in
+    let got = g.O.Sink.got c.args.out.now in
+    let now = g.O.Sink.got c.generate.new.out in
+    let faults = g.O.Sink.faults c.args.out.now in
+    let later = g.O.Sink.faults c.generate.new.out in (
+      refl {a = c.args.script.now},
+      refl {a = c.args.disk.now},
+      subst (λ (n : ℕ). IsGeneration n count got now faults later c.generate.result) same_number
+          (subst (λ (k : ℕ). IsGeneration c.in-Ok-Gen.number k got now faults later c.generate.result) same_count c.generate.ensures),
+    )
+
+pub returns-in-Ok-Gen-clause-edit : goal.returns-in-Ok-Gen-clause-edit
+returns-in-Ok-Gen-clause-edit g c = λ file spells.
+    let other = (c.parse.ensures.command (command.Edit file)).1 spells in
+    absurd (cc (c.in-Ok-Gen.is, c.in-Ok-Gen.field-0-is, other))
+
+pub returns-in-Ok-Gen-clause-recover : goal.returns-in-Ok-Gen-clause-recover
+returns-in-Ok-Gen-clause-recover g c = λ file spells.
+    let other = (c.parse.ensures.command (command.Recover file)).1 spells in
+    absurd (cc (c.in-Ok-Gen.is, c.in-Ok-Gen.field-0-is, other))
+
+pub returns-in-Ok-Edit-clause-generate : goal.returns-in-Ok-Edit-clause-generate
+returns-in-Ok-Edit-clause-generate g c = λ number count spells.
+    let other = (c.parse.ensures.command (command.Gen number count)).1 spells in
+    absurd (cc (c.in-Ok-Edit.is, c.in-Ok-Edit.field-0-is, other))
+
+pub returns-in-Ok-Recover-clause-generate : goal.returns-in-Ok-Recover-clause-generate
+returns-in-Ok-Recover-clause-generate g c = λ number count spells.
+    let other = (c.parse.ensures.command (command.Gen number count)).1 spells in
+    absurd (cc (c.in-Ok-Recover.is, c.in-Ok-Recover.field-0-is, other))
+
+pub returns-in-Err-clause-generate : goal.returns-in-Err-clause-generate
+returns-in-Err-clause-generate g c = λ number count spells.
+    let other = (c.parse.ensures.command (command.Gen number count)).1 spells in
     absurd (cc (c.in-Err.is, other))

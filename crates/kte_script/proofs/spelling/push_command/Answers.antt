@@ -21,5 +21,20 @@ returns-in-Unlock-clause-ok c = rw c.in-Unlock.is c.push_unlock.ensures.ok
 pub returns-in-Land-clause-ok : goal.returns-in-Land-clause-ok
 returns-in-Land-clause-ok c = rw c.in-Land.is c.push_land.ensures.ok
 
+pub returns-in-Fold-clause-ok : goal.returns-in-Fold-clause-ok
+returns-in-Fold-clause-ok c = rw c.in-Fold.is c.push_fold.ensures.ok
+
+pub returns-in-Unfold-clause-ok : goal.returns-in-Unfold-clause-ok
+returns-in-Unfold-clause-ok c = rw c.in-Unfold.is c.push_unfold.ensures.ok
+
+pub returns-in-Find-clause-ok : goal.returns-in-Find-clause-ok
+returns-in-Find-clause-ok c = rw c.in-Find.is c.push_find.ensures.ok
+
+pub returns-in-FindBack-clause-ok : goal.returns-in-FindBack-clause-ok
+returns-in-FindBack-clause-ok c = rw c.in-FindBack.is c.push_findback.ensures.ok
+
+pub returns-in-All-clause-ok : goal.returns-in-All-clause-ok
+returns-in-All-clause-ok c = rw c.in-All.is c.push_all.ensures.ok
+
 pub returns-in-Check-clause-ok : goal.returns-in-Check-clause-ok
 returns-in-Check-clause-ok c = rw c.in-Check.is c.push_check.ensures.ok
