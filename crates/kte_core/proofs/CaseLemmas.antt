@@ -1,10 +1,11 @@
 -- What comes of a request, case by case: the jobs, the close, the locks of jobs, and the trail.
-use Rattle.std.proofs.Common.{◌≡◌, ℕ, ◌+◌, ◌≤◌, false, List, [], ◌++◌, length, length-append, take, Option, Some, None, refl, ap, sym, ◌∙◌, arith, append-nil}
+use Rattle.std.proofs.Common.{◌≡◌, ℕ, ◌+◌, ◌≤◌, false, List, [], ◌++◌, length, length-append, take, Option, Some, None, refl, ap, sym, ◌∙◌, arith, append-nil, append_assoc}
+use Rattle.std.specs.Option.{option_to_list}
 use Rattle.std.proofs.lemmas.Bool.{cond_both}
 use Rattle.kte_place.specs.Ends.{Ends}
 use Rattle.kte_text.specs.declared.primitive.Primitive.{Primitive}
 use Rattle.kte_edit.specs.Steps.{steps_of}
-use Rattle.kte_undo.specs.Steps.{steps_along}
+use Rattle.kte_undo.specs.Steps.{steps_along, redo_of}
 use Rattle.kte_undo.specs.Groups.{Edits, gone_back, gone_forth}
 use Rattle.kte_jobs.specs.Jobs.{least_waiting}
 use Rattle.kte_command.specs.declared.command.Command.{Command}
@@ -14,7 +15,7 @@ use Rattle.kte_core.specs.State.{State, Reaction, refused, edited}
 use Rattle.kte_core.specs.Jobs.{taken_at, take_job, deliver, give_back}
 use Rattle.kte_core.specs.React.{react, react_by, react_command, react_cut, close, cut_at}
 use Rattle.kte_core.specs.Requests.{ranges_of}
-use Rattle.kte_core.specs.Replay.{came_of, after_event}
+use Rattle.kte_core.specs.Replay.{came_of, after_event, primitives_in}
 use Rattle.kte_core.specs.JobsInWords.{Leaves, JobChange, Grows}
 use Rattle.kte_core.specs.JobsInWords.JobChange.{stays, closes, posts, takes, finishes, returns}
 use Rattle.kte_core.specs.declared.event.Event.{Event}
@@ -24,7 +25,7 @@ use Rattle.kte_core.specs.declared.reply.Refusal.{Refusal}
 use Rattle.kte_core.specs.declared.reply.Refusal.TheVariants.{Closed}
 use Rattle.kte_core.specs.declared.request.Request.{Request}
 use Rattle.kte_core.specs.declared.request.Request.TheVariants.{Cmd, Close, Take, Deliver, GiveBack, Outcome}
-use Rattle.kte_core.proofs.TransactionLemmas.{depth-ended, depth-noted, IsStill, still}
+use Rattle.kte_core.proofs.TransactionLemmas.{depth-ended, depth-noted, IsStill, still, Moves, finished_and_open}
 
 -- ---- what comes of a request
 
@@ -196,6 +197,19 @@ grows state seat request (Some n) = grows-cut state seat request n
 -- .. and so after any event
 pub event_grows : (state : State) (event : Event) → Grows state event.request (came_of state event)
 event_grows state event = grows state event.seat event.request (cut_at event.reply)
+
+-- the primitives made before an event, and those that come of it
+pub parted-on : (state : State) (event : Event) (done : List Primitive) → Moves state (came_of state event)
+    → state.editing.trail ≡ done ++ redo_of state.editing.edits.current
+    → (after_event state event).editing.trail
+    ≡ (done ++ primitives_in (option_to_list (came_of state event).finished)) ++ redo_of (after_event state event).editing.edits.current
+parted-on state event done moves is =
+    let came = came_of state event in
+    let more = primitives_in (option_to_list came.finished) in
+    (event_grows state event).trail ∙ ap (λ (t : List Primitive). t ++ came.made) is
+    ∙ append_assoc done (redo_of state.editing.edits.current) came.made
+    ∙ ap (λ (t : List Primitive). done ++ t) (finished_and_open state came moves)
+    ∙ sym (append_assoc done more (redo_of came.after.editing.edits.current))
 
 -- the revision never falls
 pub revision_grows : (state : State) (event : Event) → revision_of state.editing ≤ revision_of (after_event state event).editing

@@ -3,9 +3,9 @@ use Rattle.std.proofs.Common.{◌≡◌, ℕ, Bool, true, false, cond, List, [],
 use Rattle.std.specs.Prelude.{option_and_then}
 use Rattle.std.specs.Option.{option_map}
 use Rattle.std.specs.List.{filter_map, cons_option}
-use Rattle.std.specs.Ordering.{nat_cmp, eq_by_cmp}
+use Rattle.std.specs.Ordering.{nat_cmp, eq_by_cmp, is_lt}
 use Rattle.std.specs.Cmp.{nat_cmp_total}
-use Rattle.std.specs.FinMap.{FinMap, get, same_map, nat_cmp-IsAntisymmetric, entries, entries_sorted, find, is_sorted, get-from_entries, get-entries}
+use Rattle.std.specs.FinMap.{FinMap, get, same_map, nat_cmp-IsAntisymmetric, entries, entries_sorted, find, from_sorted, is_sorted, entries-from_sorted, get-from_sorted, get-from_entries, get-entries}
 use Rattle.std.specs.FinMap.Entries.{below_all}
 use Rattle.std.proofs.lemmas.Bool.{cases_eq}
 use Rattle.std.proofs.lemmas.Bool.Decides.{nat_tests}
@@ -18,7 +18,7 @@ use Rattle.kte_core.specs.State.{Range, State, stands}
 use Rattle.kte_core.specs.Folds.{is_fold_kind, only_fold, folds_of, spans_now}
 use Rattle.kte_core.specs.Shown.{IsOf, AreFoldsOf, range_of, is_standing_fold}
 
-from_T : (b : Bool) → T b → b ≡ true
+pub from_T : (b : Bool) → T b → b ≡ true
 from_T true h = refl
 from_T false h = absurd h
 
@@ -32,15 +32,19 @@ module _ {X : Type 0} where
       grind (arith, nat_tests)
 
   module _ {Y : Type 0} (f : X → Option Y) where
-    -- the value of a key where some values are left out, and the others changed
-    find-filter_map : (q : ℕ) (es : List (ℕ × X)) → is_sorted nat_cmp es ≡ true
-        → find nat_cmp q (filter_map (λ e. option_map (λ y. (e.0, y)) (f e.1)) es) ≡ option_and_then f (find nat_cmp q es)
-    find-filter_map q [] rising = refl
-    find-filter_map q (e ∷ es) rising =
-        by_value q e es (f e.1) refl (grind arith) (find-filter_map q es (grind arith)) where
+    -- entries of which some are left out, and the values of the others changed
+    abbrev pub changed_by : List (ℕ × X) → List (ℕ × Y)
+    changed_by es = filter_map (λ e. option_map (λ y. (e.0, y)) (f e.1)) es
+
+    -- the value of a key then
+    find-changed_by : (q : ℕ) (es : List (ℕ × X)) → is_sorted nat_cmp es ≡ true
+        → find nat_cmp q (changed_by es) ≡ option_and_then f (find nat_cmp q es)
+    find-changed_by q [] rising = refl
+    find-changed_by q (e ∷ es) rising =
+        by_value q e es (f e.1) refl (grind arith) (find-changed_by q es (grind arith)) where
           by_value : (q : ℕ) (e : ℕ × X) (es : List (ℕ × X)) (o : Option Y) → f e.1 ≡ o → below_all nat_cmp e.0 es ≡ true
-              → find nat_cmp q (filter_map (λ e. option_map (λ y. (e.0, y)) (f e.1)) es) ≡ option_and_then f (find nat_cmp q es)
-              → find nat_cmp q (cons_option (option_map (λ y. (e.0, y)) o) (filter_map (λ e. option_map (λ y. (e.0, y)) (f e.1)) es))
+              → find nat_cmp q (changed_by es) ≡ option_and_then f (find nat_cmp q es)
+              → find nat_cmp q (cons_option (option_map (λ y. (e.0, y)) o) (changed_by es))
               ≡ option_and_then f (cond (eq_by_cmp nat_cmp q e.0) (Some e.1) (find nat_cmp q es))
           by_value q e es None is below rest =
               elim (cases_eq q e.0) [
@@ -53,11 +57,43 @@ module _ {X : Type 0} where
                 | inr other ↦ grind (arith, nat_tests)
               ]
 
+    -- their keys rise still
+    below_all-changed_by : (x : ℕ) (es : List (ℕ × X)) → below_all nat_cmp x es ≡ true → below_all nat_cmp x (changed_by es) ≡ true
+    below_all-changed_by x [] below = refl
+    below_all-changed_by x (e ∷ es) below =
+        by_value (f e.1) (grind arith) (below_all-changed_by x es (grind arith)) where
+          by_value : (o : Option Y) → is_lt (nat_cmp x e.0) ≡ true → below_all nat_cmp x (changed_by es) ≡ true
+              → below_all nat_cmp x (cons_option (option_map (λ y. (e.0, y)) o) (changed_by es)) ≡ true
+          by_value None first rest = rest
+          by_value (Some y) first rest = grind arith
+
+    is_sorted-changed_by : (es : List (ℕ × X)) → is_sorted nat_cmp es ≡ true → is_sorted nat_cmp (changed_by es) ≡ true
+    is_sorted-changed_by [] rising = refl
+    is_sorted-changed_by (e ∷ es) rising =
+        by_value (f e.1) (below_all-changed_by e.0 es (grind arith)) (is_sorted-changed_by es (grind arith)) where
+          by_value : (o : Option Y) → below_all nat_cmp e.0 (changed_by es) ≡ true → is_sorted nat_cmp (changed_by es) ≡ true
+              → is_sorted nat_cmp (cons_option (option_map (λ y. (e.0, y)) o) (changed_by es)) ≡ true
+          by_value None first rest = rest
+          by_value (Some y) first rest = grind arith
+
+    -- a map that has the values of another so changed has its entries so changed
+    pub entries-changed_by : (old : FinMap nat_cmp X) (new : FinMap nat_cmp Y) → ((id : ℕ) → get new id ≡ option_and_then f (get old id))
+        → entries new ≡ changed_by (entries old)
+    entries-changed_by old new changed =
+        let es = changed_by (entries old) in
+        let old_rising = from_T _ (entries_sorted old) in
+        let rising : T (is_sorted nat_cmp es) = subst T (sym (is_sorted-changed_by (entries old) old_rising)) tt in
+        let same : new ≡ from_sorted es =
+        same_map nat_cmp_total nat_cmp-IsAntisymmetric new (from_sorted es)
+        (λ q. changed q ∙ ap (option_and_then f) (get-entries old q) ∙ sym (find-changed_by q (entries old) old_rising)
+        ∙ sym (get-from_sorted nat_cmp es q rising)) in
+        ap entries same ∙ entries-from_sorted nat_cmp es rising
+
 -- where the range of a number stands now
 pub get-spans_now : (state : State) (id : ℕ) → get (spans_now state) id ≡ option_and_then (stands state.editing) (get state.ranges id)
 get-spans_now state id =
     get-from_entries nat_cmp_total _ id
-    ∙ find-filter_map (stands state.editing) id (entries state.ranges) (from_T _ (entries_sorted state.ranges))
+    ∙ find-changed_by (stands state.editing) id (entries state.ranges) (from_T _ (entries_sorted state.ranges))
     ∙ ap (option_and_then (stands state.editing)) (sym (get-entries state.ranges id))
 
 -- the range of a number is a fold, if there is one

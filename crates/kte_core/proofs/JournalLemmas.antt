@@ -1,4 +1,4 @@
--- Lists of events: what they leave of the trail, and when they are answered and legal.
+-- Lists of events: what they leave of the trail, and what holds of each of them.
 use Rattle.std.proofs.Common.{◌≡◌, ◌≢◌, ℕ, ◌+◌, ◌≤◌, All, List, [], ◌∷◌, ◌++◌, length, length-append, take, Some, refl, ap, sym, subst, ◌∙◌, arith, append-nil, append_assoc}
 use Rattle.std.specs.List.{sum_by}
 use Rattle.std.proofs.lemmas.List.{take-append-le}
@@ -16,7 +16,7 @@ use Rattle.kte_core.specs.Editing.{Editing, revision_of}
 use Rattle.kte_core.specs.State.{State}
 use Rattle.kte_core.specs.Jobs.{taken_at}
 use Rattle.kte_core.specs.Requests.{ranges_of}
-use Rattle.kte_core.specs.Replay.{came_of, after_event, replay, FindsAt, Finds, IsAnswered, Answered, IsLegal, Legal}
+use Rattle.kte_core.specs.Replay.{came_of, after_event, replay, FindsAt, Finds, EachIn, IsAnswered, Answered, IsLegal, Legal}
 use Rattle.kte_core.specs.JobsInWords.{Follows}
 use Rattle.kte_core.specs.declared.event.Event.{Event}
 use Rattle.kte_core.specs.declared.request.Request.TheVariants.{Deliver}
@@ -108,53 +108,48 @@ pub replay-append : (state : State) (events more : List Event) → replay state 
 replay-append state [] more = refl
 replay-append state (event ∷ events) more = replay-append (after_event state event) events more
 
--- answered events, and then others, are answered; and the other way round
-pub Answered-append : (state : State) (events more : List Event) → Answered state events → Answered (replay state events) more
-    → Answered state (events ++ more)
-Answered-append state [] more answered later = later
-Answered-append state (event ∷ events) more answered later =
-    (answered.0, Answered-append (after_event state event) events more answered.1 later)
+-- what holds of each of some events, and then of each of others, holds of each of all; and the
+-- other way round
+pub EachIn-append : (P : State → Event → Type 0) (state : State) (events more : List Event) → EachIn P state events
+    → EachIn P (replay state events) more → EachIn P state (events ++ more)
+EachIn-append P state [] more each later = later
+EachIn-append P state (event ∷ events) more each later = (each.0, EachIn-append P (after_event state event) events more each.1 later)
 
-pub Answered-front : (state : State) (events more : List Event) → Answered state (events ++ more) → Answered state events
-Answered-front state [] more answered = tt
-Answered-front state (event ∷ events) more answered = (answered.0, Answered-front (after_event state event) events more answered.1)
+pub EachIn-front : (P : State → Event → Type 0) (state : State) (events more : List Event) → EachIn P state (events ++ more)
+    → EachIn P state events
+EachIn-front P state [] more each = tt
+EachIn-front P state (event ∷ events) more each = (each.0, EachIn-front P (after_event state event) events more each.1)
 
-pub Answered-back : (state : State) (events more : List Event) → Answered state (events ++ more) → Answered (replay state events) more
-Answered-back state [] more answered = answered
-Answered-back state (event ∷ events) more answered = Answered-back (after_event state event) events more answered.1
+pub EachIn-back : (P : State → Event → Type 0) (state : State) (events more : List Event) → EachIn P state (events ++ more)
+    → EachIn P (replay state events) more
+EachIn-back P state [] more each = each
+EachIn-back P state (event ∷ events) more each = EachIn-back P (after_event state event) events more each.1
 
 -- .. one event more
-pub Answered-one_more : (state : State) (events : List Event) (event : Event) → Answered state events → IsAnswered (replay state events) event
-    → Answered state (events ++ event ∷ [])
-Answered-one_more state events event answered last = Answered-append state events (event ∷ []) answered (last, tt)
+pub EachIn-one_more : (P : State → Event → Type 0) (state : State) (events : List Event) (event : Event) → EachIn P state events
+    → P (replay state events) event → EachIn P state (events ++ event ∷ [])
+EachIn-one_more P state events event each last = EachIn-append P state events (event ∷ []) each (last, tt)
 
-pub Answered-last : (state : State) (events : List Event) (event : Event) → Answered state (events ++ event ∷ [])
-    → IsAnswered (replay state events) event
-Answered-last state events event answered = (Answered-back state events (event ∷ []) answered).0
+pub EachIn-last : (P : State → Event → Type 0) (state : State) (events : List Event) (event : Event)
+    → EachIn P state (events ++ event ∷ []) → P (replay state events) event
+EachIn-last P state events event each = (EachIn-back P state events (event ∷ []) each).0
 
--- legal events, and then others, are legal; and the other way round
+-- legal events and others, for callers
 pub Legal-append : (state : State) (events more : List Event) → Legal state events → Legal (replay state events) more
     → Legal state (events ++ more)
-Legal-append state [] more legal later = later
-Legal-append state (event ∷ events) more legal later = (legal.0, Legal-append (after_event state event) events more legal.1 later)
+Legal-append = EachIn-append IsLegal
 
-pub Legal-front : (state : State) (events more : List Event) → Legal state (events ++ more) → Legal state events
-Legal-front state [] more legal = tt
-Legal-front state (event ∷ events) more legal = (legal.0, Legal-front (after_event state event) events more legal.1)
-
-pub Legal-back : (state : State) (events more : List Event) → Legal state (events ++ more) → Legal (replay state events) more
-Legal-back state [] more legal = legal
-Legal-back state (event ∷ events) more legal = Legal-back (after_event state event) events more legal.1
-
--- .. one event more
 pub Legal-one_more : (state : State) (events : List Event) (event : Event) → Legal state events → IsLegal (replay state events) event
     → Legal state (events ++ event ∷ [])
-Legal-one_more state events event legal last = Legal-append state events (event ∷ []) legal (last, tt)
+Legal-one_more = EachIn-one_more IsLegal
 
-pub Legal-last : (state : State) (events : List Event) (event : Event) → Legal state (events ++ event ∷ []) → IsLegal (replay state events) event
-Legal-last state events event legal = (Legal-back state events (event ∷ []) legal).0
+-- what follows for one event follows for each
+pub EachIn-map : (P Q : State → Event → Type 0) → ((state : State) (event : Event) → P state event → Q state event)
+    → (state : State) (events : List Event) → EachIn P state events → EachIn Q state events
+EachIn-map P Q follows state [] each = tt
+EachIn-map P Q follows state (event ∷ events) each =
+    (follows state event each.0, EachIn-map P Q follows (after_event state event) events each.1)
 
 -- legal events are answered
 pub Legal-answered : (state : State) (events : List Event) → Legal state events → Answered state events
-Legal-answered state [] legal = tt
-Legal-answered state (event ∷ events) legal = (legal.0.answered, Legal-answered (after_event state event) events legal.1)
+Legal-answered = EachIn-map IsLegal IsAnswered (λ state event legal. legal.answered)

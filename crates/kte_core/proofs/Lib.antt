@@ -31,3 +31,4 @@ pub mod PropLemmas
 pub mod SearchLemmas
 pub mod FoldStepLemmas
 pub mod FoldLemmas
+pub mod ReachLemmas

@@ -12,7 +12,7 @@ use Rattle.kte_command.specs.declared.command.Command.TheVariants as command
 use Rattle.kte_core.specs.State.{State}
 use Rattle.kte_core.specs.React.{react, cut_at, CutsBetween}
 use Rattle.kte_core.specs.Requests.{IsAllowed}
-use Rattle.kte_core.specs.Replay.{came_of, after_event, IsAnswered, Answered, Finds, IsLegal, Legal}
+use Rattle.kte_core.specs.Replay.{came_of, after_event, EachIn, IsAnswered, Answered, Finds, IsLegal, Legal}
 use Rattle.kte_core.specs.JobsInWords.{IsFree, WorksOn}
 use Rattle.kte_core.specs.declared.event.Event.{Event}
 use Rattle.kte_core.specs.declared.request.Request.{Request}
@@ -67,14 +67,6 @@ answered_event-prop state event =
     let cut = cuts-prop (react state event.seat event.request).made (cut_at event.reply) in
     hlevel (allowed, reply, cut)
 
--- events are answered in one way only
-pub Answered-prop : (state : State) (events : List Event) → IsProp (Answered state events)
-Answered-prop state [] = hlevel
-Answered-prop state (event ∷ events) =
-    let first = answered_event-prop state event in
-    let rest = Answered-prop (after_event state event) events in
-    hlevel (first, rest)
-
 finds-prop : (state : State) (seat : ℕ) (request : Request) → IsProp (Finds state seat request)
 finds-prop state seat (Deliver job findings) = λ p q.
     λ i rule revision has taken. findings-prop rule (text_at state.editing.loaded.text state.editing.trail revision) findings
@@ -87,13 +79,20 @@ legal_event-prop state event =
     let finds = finds-prop state event.seat event.request in
     hlevel (answered, finds)
 
--- .. and legal in one way only
-pub Legal-prop : (state : State) (events : List Event) → IsProp (Legal state events)
-Legal-prop state [] = hlevel
-Legal-prop state (event ∷ events) =
-    let first = legal_event-prop state event in
-    let rest = Legal-prop (after_event state event) events in
+-- what holds of each event in one way only holds so of all
+EachIn-prop : (P : State → Event → Type 0) → ((state : State) (event : Event) → IsProp (P state event))
+    → (state : State) (events : List Event) → IsProp (EachIn P state events)
+EachIn-prop P prop state [] = hlevel
+EachIn-prop P prop state (event ∷ events) =
+    let first = prop state event in
+    let rest = EachIn-prop P prop (after_event state event) events in
     hlevel (first, rest)
+
+pub Answered-prop : (state : State) (events : List Event) → IsProp (Answered state events)
+Answered-prop = EachIn-prop IsAnswered answered_event-prop
+
+pub Legal-prop : (state : State) (events : List Event) → IsProp (Legal state events)
+Legal-prop = EachIn-prop IsLegal legal_event-prop
 
 -- ---- what a seat works on
 

@@ -21,7 +21,7 @@ use Rattle.kte_core.specs.Groups.{GroupsFit, IsFilled}
 use Rattle.kte_core.specs.State.{State, Reaction}
 use Rattle.kte_core.specs.React.{react, react_by, cut_at, CutsBetween}
 use Rattle.kte_core.specs.Requests.{IsAllowed}
-use Rattle.kte_core.specs.Replay.{Session, beginning, present, replay, came_of, after_event, transactions, primitives_in, Answered}
+use Rattle.kte_core.specs.Replay.{Session, beginning, present, replay, came_of, after_event, transactions, primitives_in, IsAnswered, Answered}
 use Rattle.kte_core.specs.Shown.{range_of, IsOf, AreFoldsOf, Answers, Reacts, Shows}
 use Rattle.kte_core.specs.Jobs.{AreLocked, KeepsRevisions, taken_at}
 use Rattle.kte_core.specs.Kept.{owed, kept_after}
@@ -35,11 +35,11 @@ use Rattle.kte_core.specs.declared.event.Step.{Step}
 use Rattle.kte_core.specs.declared.reply.Reply.{Reply}
 use Rattle.kte_core.proofs.FoldKeepLemmas.{folds-none}
 use Rattle.kte_core.proofs.GroupLemmas.{Leads-none}
-use Rattle.kte_core.proofs.CaseLemmas.{event_grows}
-use Rattle.kte_core.proofs.JournalLemmas.{replay-append, follows-replay, Answered-one_more}
+use Rattle.kte_core.proofs.CaseLemmas.{event_grows, parted-on}
+use Rattle.kte_core.proofs.JournalLemmas.{replay-append, follows-replay, EachIn-one_more}
 use Rattle.kte_core.proofs.KeptLemmas.{keeps-beginning, keeps-event}
 use Rattle.kte_core.proofs.RisesLemmas.{owes, owed_within}
-use Rattle.kte_core.proofs.TransactionLemmas.{Parts, parts-by}
+use Rattle.kte_core.proofs.TransactionLemmas.{Moves, moves-by}
 
 -- one more event finishes one transaction at most
 transactions-push : (state : State) (events : List Event) (event : Event)
@@ -99,23 +99,18 @@ came_is state event step reply = ap (λ (r : Reply). react_by state event.seat e
 -- the primitives after one event more
 parted-push : (start : State) (events : List Event) (event : Event)
     → (replay start events).editing.trail ≡ primitives_in (transactions start events) ++ redo_of (replay start events).editing.edits.current
-    → Parts (replay start events).editing (came_of (replay start events) event).made (came_of (replay start events) event).finished
-    (after_event (replay start events) event).editing
+    → Moves (replay start events) (came_of (replay start events) event)
     → (after_event (replay start events) event).editing.trail
     ≡ primitives_in (transactions start (events ++ event ∷ [])) ++ redo_of (after_event (replay start events) event).editing.edits.current
-parted-push start events event parted parts =
+parted-push start events event was moves =
     let state = replay start events in
     let came = came_of state event in
-    let done = primitives_in (transactions start events) in
-    let more = primitives_in (option_to_list came.finished) in
-    let open_before = redo_of state.editing.edits.current in
-    let open_after = redo_of came.after.editing.edits.current in
-    let all : primitives_in (transactions start (events ++ event ∷ [])) ≡ done ++ more =
+    let all : primitives_in (transactions start (events ++ event ∷ []))
+    ≡ primitives_in (transactions start events) ++ primitives_in (option_to_list came.finished) =
     ap primitives_in (transactions-push start events event)
     ∙ flat_map-append (λ (t : List Primitive). t) (transactions start events) (option_to_list came.finished) in
-    parts.trail ∙ ap (λ (t : List Primitive). t ++ came.made) parted ∙ append_assoc done open_before came.made
-    ∙ ap (λ (t : List Primitive). done ++ t) parts.parts ∙ sym (append_assoc done more open_after)
-    ∙ ap (λ (t : List Primitive). t ++ open_after) (sym all)
+    parted-on state event (primitives_in (transactions start events)) moves was
+    ∙ ap (λ (t : List Primitive). t ++ redo_of came.after.editing.edits.current) (sym all)
 
 -- outside of a transaction no step is in the open group
 shut_sound : (core : Inside) → IsSound core → (present (session_of core)).editing.edits.depth ≡ 0
@@ -145,8 +140,8 @@ IsSound-step core later event step sound loaded limit journal allowed reply answ
     let replied : event.reply ≡ came.reply = reply ∙ answers.reacts.reply ∙ ap (λ (r : Reaction). r.reply) is in
     let turn : FitInTurn came.after.editing.trail state.editing.loaded.text =
     subst (λ (l : Loaded). FitInTurn came.after.editing.trail l.text) (event_grows state event).loaded shown.document.came.fits in
-    let parts = parts-by state event.seat event.request (cut_at event.reply) (λ shut. shut_sound core sound shut) cut turn in
-    let parted = parted-push first core.journal.events event sound.parted parts in
+    let moves = moves-by state event.seat event.request (cut_at event.reply) (λ shut. ap redo_of (shut_sound core sound shut)) cut turn in
+    let all_parted = parted-push first core.journal.events event sound.parted moves in
     record {
       shows = subst (λ (s : State). Shows s later.present) (sym now) shown;
       fit = fit;
@@ -156,8 +151,8 @@ IsSound-step core later event step sound loaded limit journal allowed reply answ
           ∙ sym (owes state event.seat event.request (cut_at event.reply)) ∙ ap owed (sym now);
       room = room;
       answered = subst (λ (s : State). Answered s later.journal.events) (sym start) (subst (Answered first) (sym journal)
-          (Answered-one_more first core.journal.events event sound.answered (record { allowed = allowed; reply = replied; cut = cut })));
-      parted = ap (λ (s : State). s.editing.trail) now ∙ parted
+          (EachIn-one_more IsAnswered first core.journal.events event sound.answered (record { allowed = allowed; reply = replied; cut = cut })));
+      parted = ap (λ (s : State). s.editing.trail) now ∙ all_parted
           ∙ ap (λ (events : List Event). primitives_in (transactions first events) ++ redo_of came.after.editing.edits.current) (sym journal)
           ∙ ap (λ (s : State). primitives_in (transactions s later.journal.events) ++ redo_of came.after.editing.edits.current) (sym start)
           ∙ ap (λ (s : State). primitives_in (transactions (beginning later.loaded later.limit) later.journal.events) ++ redo_of s.editing.edits.current) (sym now);

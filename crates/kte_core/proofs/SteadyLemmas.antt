@@ -42,8 +42,8 @@ use Rattle.kte_core.specs.declared.request.Request.TheVariants.{Cmd, Close, Take
 use Rattle.kte_core.proofs.GroupLemmas.{FitInTurn-take, Leads-text, Leads-back, Leads-forth, Leads-none, fit-begun, fit-ended, fits_change}
 use Rattle.kte_core.proofs.EditLemmas.{moved, group_reacts, group_cut}
 use Rattle.kte_core.proofs.UndoLemmas.{Going, group_fits_text, fits_gone, has_steps}
-use Rattle.kte_core.proofs.CaseLemmas.{event_grows}
-use Rattle.kte_core.proofs.TransactionLemmas.{Parts, parts-by, IsCommand, quiet_unless, unless, within_open, no_cut, not_refused, no_end, open_unless, shut_unless, still, uncut}
+use Rattle.kte_core.proofs.CaseLemmas.{event_grows, parted-on}
+use Rattle.kte_core.proofs.TransactionLemmas.{moves-by, IsCommand, quiet_unless, unless, within_open, no_cut, not_refused, no_end, open_unless, shut_unless, still, uncut}
 
 -- the insertions of a change are lines
 lines-further : (line column : ℕ) (lines : List (List ℕ)) → All IsLine lines → All HasLine (further line column lines)
@@ -283,15 +283,7 @@ steady-beginning loaded limit whole = record {
   };
 }
 
--- the primitives made before an event, and those that come of it
-parted-on : (before after : Editing) (made done : List Primitive) (finished : Option (List Primitive)) → Parts before made finished after
-    → before.trail ≡ done ++ redo_of before.edits.current
-    → after.trail ≡ (done ++ primitives_in (option_to_list finished)) ++ redo_of after.edits.current
-parted-on before after made done finished parts is =
-    let more = primitives_in (option_to_list finished) in
-    parts.trail ∙ ap (λ (t : List Primitive). t ++ made) is ∙ append_assoc done (redo_of before.edits.current) made
-    ∙ ap (λ (t : List Primitive). done ++ t) parts.parts ∙ sym (append_assoc done more (redo_of after.edits.current))
-
+-- the primitives made before some events, and those that come of them
 pub parted-replay : (state : State) (events : List Event) (done : List Primitive) → All (λ event. IsWhole event.request) events
     → IsSteady state.editing → Answered state events → state.editing.trail ≡ done ++ redo_of state.editing.edits.current
     → (replay state events).editing.trail
@@ -306,9 +298,9 @@ parted-replay state (event ∷ events) done whole steady answered is =
     let same = (event_grows state event).loaded in
     let turn : FitInTurn came.after.editing.trail state.editing.loaded.text =
     subst (λ (l : Loaded). FitInTurn came.after.editing.trail l.text) same next.turn in
-    let parts = parts-by state event.seat event.request (cut_at event.reply) steady.fit.shut answered.0.cut turn in
+    let moves = moves-by state event.seat event.request (cut_at event.reply) (λ none. ap redo_of (steady.fit.shut none)) answered.0.cut turn in
     let rest = parted-replay (after_event state event) events (done ++ primitives_in first) (All-tail P event events whole) next answered.1
-    (parted-on state.editing came.after.editing came.made done came.finished parts is) in
+    (parted-on state event done moves is) in
     let later = transactions (after_event state event) events in
     let joined : (done ++ primitives_in first) ++ primitives_in later ≡ done ++ primitives_in (first ++ later) =
     append_assoc done (primitives_in first) (primitives_in later)

@@ -1,5 +1,6 @@
--- The primitives made are those of the finished transactions and of the open one.
-use Rattle.std.proofs.Common.{◌≡◌, ℕ, ◌+◌, ◌-◌, ◌<◌, ◌≤◌, ◌==◌, Bool, true, false, List, [], ◌∷◌, ◌++◌, length, take, Option, None, Some, refl, ap, sym, ◌∙◌, if◌then◌else◌, inl, inr, arith, append-nil}
+-- What comes of requests that edit nothing, and what others make of the open transaction: it is
+-- finished with the primitives made, or goes on with them.
+use Rattle.std.proofs.Common.{◌≡◌, ◌≢◌, ℕ, ◌+◌, ◌-◌, ◌<◌, ◌≤◌, ◌==◌, Bool, true, false, List, [], ◌∷◌, ◌++◌, length, take, Option, None, Some, refl, ap, sym, ◌∙◌, if◌then◌else◌, inl, inr, arith, append-nil}
 use Rattle.std.specs.Option.{option_to_list}
 use Rattle.std.specs.Ordering.{nat_cmp}
 use Rattle.std.specs.FinMap.{FinMap, get}
@@ -22,7 +23,7 @@ use Rattle.kte_undo.specs.declared.step.Step.{Step}
 use Rattle.kte_undo.proofs.InverseLemmas.{redoes}
 use Rattle.kte_command.specs.declared.command.Command.{Command}
 use Rattle.kte_command.specs.declared.command.Command.TheVariants.{Edit, Begin, End, Undo, Redo, MakeRange, SetRange, DropRange, ShowRange, Lock, Unlock, Land, Fold, Unfold, Find, FindBack, All, Check, Sync, Save}
-use Rattle.kte_core.specs.Editing.{Editing, EditReaction, text_of, revision_of, judged, not_open, still_open, if_made, finished_at, noted_all, noted_change, carried, changed, undone, redone, undo_steps, redo_steps, change_refusal, group_refusal, closing, cut_reaction}
+use Rattle.kte_core.specs.Editing.{Editing, EditReaction, text_of, revision_of, judged, not_open, still_open, if_made, finished_at, noted_all, noted_change, carried, changed, undone, redone, undo_steps, redo_steps, change_refusal, group_refusal, closing, begin_reaction, cut_reaction}
 use Rattle.kte_core.specs.State.{State, Range, Reaction, edited, replied, refused}
 use Rattle.kte_core.specs.Folds.{only_fold, no_fold, fold_refusal}
 use Rattle.kte_core.specs.Kept.{kept_after}
@@ -61,10 +62,11 @@ quiet : (state : State) (reaction : Reaction) → IsStill state reaction → IsQ
 quiet state reaction still = record { editing = still.editing; made = still.made; finished = still.finished }
 
 -- the ranges and the locks of the editor may change
-still-ranges : (state : State) (told : Reply) (ranges : FinMap nat_cmp Range) (next : ℕ) → next ≤ state.next_id + 1
+still-changed : (state : State) (told : Reply) (ranges : FinMap nat_cmp Range) (next : ℕ) (locks : List OneLock) → next ≤ state.next_id + 1
     → cut_at told ≡ None → ((kept : ℕ) → kept_after kept told ≡ kept)
-    → IsStill state (record { reply = told; made = []; finished = None; after = record state { ranges = ranges; next_id = next } })
-still-ranges state told ranges next id uncut kept = record {
+    → ((job revision : ℕ) → has_lock locks (owner.Job job) revision ≡ has_lock state.locks (owner.Job job) revision)
+    → IsStill state (record { reply = told; made = []; finished = None; after = record state { ranges = ranges; next_id = next; locks = locks } })
+still-changed state told ranges next locks id uncut kept same = record {
   editing = refl;
   made = refl;
   finished = refl;
@@ -73,23 +75,20 @@ still-ranges state told ranges next id uncut kept = record {
   kept = kept;
   jobs = refl;
   closed = refl;
-  locks = λ job revision. refl;
+  locks = same;
 }
+
+still-ranges : (state : State) (told : Reply) (ranges : FinMap nat_cmp Range) (next : ℕ) → next ≤ state.next_id + 1
+    → cut_at told ≡ None → ((kept : ℕ) → kept_after kept told ≡ kept)
+    → IsStill state (record { reply = told; made = []; finished = None; after = record state { ranges = ranges; next_id = next } })
+still-ranges state told ranges next id uncut kept =
+    still-changed state told ranges next state.locks id uncut kept (λ job revision. refl)
 
 still-locks : (state : State) (told : Reply) (locks : List OneLock) → cut_at told ≡ None → ((kept : ℕ) → kept_after kept told ≡ kept)
     → ((job revision : ℕ) → has_lock locks (owner.Job job) revision ≡ has_lock state.locks (owner.Job job) revision)
     → IsStill state (record { reply = told; made = []; finished = None; after = record state { locks = locks } })
-still-locks state told locks uncut kept same = record {
-  editing = refl;
-  made = refl;
-  finished = refl;
-  next_id = omega arith;
-  uncut = uncut;
-  kept = kept;
-  jobs = refl;
-  closed = refl;
-  locks = same;
-}
+still-locks state told locks uncut kept same =
+    still-changed state told state.ranges state.next_id locks (omega arith) uncut kept same
 
 still-replied : (state : State) (told : Reply) → cut_at told ≡ None → ((kept : ℕ) → kept_after kept told ≡ kept) → IsStill state (replied state told)
 still-replied state told uncut kept = still-ranges state told state.ranges state.next_id (omega arith) uncut kept
@@ -234,38 +233,6 @@ depth-noted steps edits =
       | inr f ↦ rw f refl
     ]
 
--- The primitives of the open transaction and those made are those of the finished one, if one is
--- finished, and those of the one that is open then
-pub record Parts (before : Editing) (made : List Primitive) (finished : Option (List Primitive)) (after : Editing) : Type 0 where
-  pub trail : after.trail ≡ before.trail ++ made
-  pub parts : redo_of before.edits.current ++ made ≡ primitives_in (option_to_list finished) ++ redo_of after.edits.current
-
--- nothing is made
-parts-none : (editing : Editing) → Parts editing [] None editing
-parts-none editing = record { trail = sym (append-nil editing.trail); parts = append-nil (redo_of editing.edits.current) }
-
-parts-judged : (judgement : Option Refusal) (editing : Editing) (made : EditReaction)
-    → (FitInTurn made.after.trail editing.loaded.text → judgement ≡ None → Parts editing made.made made.finished made.after)
-    → FitInTurn (judged judgement editing made).after.trail editing.loaded.text
-    → Parts editing (judged judgement editing made).made (judged judgement editing made).finished (judged judgement editing made).after
-parts-judged None editing made h fit = h fit refl
-parts-judged (Some cause) editing made h fit = parts-none editing
-
--- primitives that are a transaction of their own
-alone : (ps : List Primitive) → ps ≡ primitives_in (option_to_list (if_made ps)) ++ []
-alone [] = refl
-alone (p ∷ ps) = sym (append-nil ((p ∷ ps) ++ []) ∙ append-nil (p ∷ ps))
-
-parts-alone : (editing : Editing) (ps : List Primitive) (edits : Edits) (told : ℕ → ℕ → ℕ → Reply) → editing.edits.current ≡ []
-    → edits.depth ≡ 0 → edits.current ≡ []
-    → Parts editing ps (carried told editing ps edits).finished (record editing { trail = editing.trail ++ ps; edits = edits })
-parts-alone editing ps edits told none shut still_none =
-    let t : (edits.depth == 0) ≡ true = eq-eqb edits.depth 0 shut in
-    record {
-      trail = refl;
-      parts = rw (none, t, still_none) (alone ps);
-    }
-
 -- the later ones of primitives that fit in turn fit the text after the first ones
 pub FitInTurn-later : (ps qs : List Primitive) (text : List (List ℕ)) → FitInTurn (ps ++ qs) text → FitInTurn qs (after_all ps text)
 FitInTurn-later [] qs text fit = fit
@@ -280,55 +247,6 @@ none-ended edits one =
     let t : (edits.depth == 1) ≡ true = eq-eqb edits.depth 1 one in
     rw t (none-closed edits.current (record edits { depth = 0 }) refl)
 
-parts-changed : (told : ℕ → ℕ → ℕ → Reply) (editing : Editing) (ps : List Primitive) → (editing.edits.depth ≡ 0 → editing.edits.current ≡ [])
-    → FitInTurn (editing.trail ++ ps) editing.loaded.text
-    → Parts editing ps (changed told editing ps).finished (changed told editing ps).after
-parts-changed told editing ps shut fit =
-    let edits = editing.edits in
-    let steps = steps_along ps (text_of editing) in
-    let later = noted_change steps edits in
-    elim (cases_Bool (edits.depth == 0)) [
-      | inl t ↦
-          let zero = eqb-true edits.depth 0 t in
-          let none : later.current ≡ [] = rw t (none-ended (noted_all steps (begun edits)) (omega arith)) in
-          parts-alone editing ps later told (shut zero) (depth-noted steps edits ∙ zero) none
-      | inr f ↦
-          let e : (later.depth == 0) ≡ false = ap (λ (d : ℕ). d == 0) (depth-noted steps edits) ∙ f in
-          let is : later.current ≡ edits.current ++ steps = rw f refl in
-          let turn = FitInTurn-later editing.trail ps editing.loaded.text fit in
-          record {
-            trail = refl;
-            parts = rw e (sym (ap redo_of is ∙ map-append forth_of edits.current steps
-                ∙ ap (λ (qs : List Primitive). redo_of edits.current ++ qs) (redoes ps (text_of editing) turn)));
-          }
-    ]
-
--- a transaction that is closed
-outer_parts : (steps : List Step) (edits : Edits) → edits.depth ≡ 0 → edits.current ≡ steps
-    → redo_of steps ≡ primitives_in (option_to_list (finished_at (closed steps edits).depth (redo_of steps))) ++ redo_of (closed steps edits).current
-outer_parts [] edits zero is =
-    let t : (edits.depth == 0) ≡ true = eq-eqb edits.depth 0 zero in
-    rw (t, is) refl
-outer_parts (first ∷ steps) edits zero is =
-    let t : (edits.depth == 0) ≡ true = eq-eqb edits.depth 0 zero in
-    rw t (alone (redo_of (first ∷ steps)))
-
-closed_parts : (edits : Edits) → 0 < edits.depth
-    → redo_of edits.current ≡ primitives_in (option_to_list (finished_at (ended edits).depth (redo_of edits.current))) ++ redo_of (ended edits).current
-closed_parts edits some =
-    elim (cases_Bool (edits.depth == 1)) [
-      | inl t ↦ rw t (outer_parts edits.current (record edits { depth = 0 }) refl refl)
-      | inr f ↦
-          let two : (edits.depth - 1 == 0) ≡ false = ne_eqb (edits.depth - 1) 0 (λ zero. absurd (eqb-false edits.depth 1 f (omega arith))) in
-          rw (f, two) refl
-    ]
-
-parts-closing : (editing : Editing) → 0 < editing.edits.depth → Parts editing [] (closing editing).finished (closing editing).after
-parts-closing editing some = record {
-  trail = sym (append-nil editing.trail);
-  parts = append-nil (redo_of editing.edits.current) ∙ closed_parts editing.edits some;
-}
-
 -- no transaction is open where an undo or a redo is not refused
 pub shut_unless : (editing : Editing) (groups : List (List Step)) (ps : List Primitive) → group_refusal editing groups ps ≡ None → editing.edits.depth ≡ 0
 shut_unless editing groups ps none =
@@ -336,15 +254,6 @@ shut_unless editing groups ps none =
       | inl t ↦ eqb-true editing.edits.depth 0 t
       | inr f ↦ let open_none = rw f at none in absurd (cc)
     ]
-
--- primitives of the last group to be undone, or to be redone: these are its steps
-parts-group : (editing : Editing) (groups : List (List Step)) (steps ps : List Primitive) (edits : Edits) (told : ℕ → ℕ → ℕ → Reply)
-    → (editing.edits.depth ≡ 0 → editing.edits.current ≡ []) → edits.depth ≡ editing.edits.depth → edits.current ≡ editing.edits.current
-    → group_refusal editing groups steps ≡ None
-    → Parts editing ps (carried told editing ps edits).finished (record editing { trail = editing.trail ++ ps; edits = edits })
-parts-group editing groups steps ps edits told shut depth current none =
-    let zero = shut_unless editing groups steps none in
-    parts-alone editing ps edits told (shut zero) (depth ∙ zero) (current ∙ shut zero)
 
 pub open_unless : (depth : ℕ) → not_open depth ≡ None → 0 < depth
 open_unless depth none =
@@ -358,41 +267,6 @@ pub not_refused : (judgement : Option Refusal) (editing : Editing) (made : EditR
 not_refused None editing made n within = refl
 not_refused (Some cause) editing made n within = absurd (omega arith)
 
--- the parts of what comes of a request
-abbrev pub PartsOf : State → Reaction → Type 0
-PartsOf state reaction = Parts state.editing reaction.made reaction.finished reaction.after.editing
-
-parts-quiet : (state : State) (reaction : Reaction) → IsQuiet state reaction → PartsOf state reaction
-parts-quiet state reaction quiet =
-    rw (quiet.made, quiet.finished, quiet.editing) (parts-none state.editing)
-
--- the primitives are made in a text that they fit
-abbrev pub FitsAfter : State → Reaction → Type 0
-FitsAfter state reaction = FitInTurn reaction.after.editing.trail state.editing.loaded.text
-
-pub parts-react : (state : State) (command : Command) → (state.editing.edits.depth ≡ 0 → state.editing.edits.current ≡ [])
-    → FitsAfter state (react_command state command) → PartsOf state (react_command state command)
-parts-react state (Edit change) shut fit =
-    let editing = state.editing in
-    parts-judged (change_refusal editing change) editing (changed reply.Edited editing (steps_of change (text_of editing)))
-    (λ fits none. parts-changed reply.Edited editing (steps_of change (text_of editing)) shut fits) fit
-parts-react state Begin shut fit = record { trail = sym (append-nil state.editing.trail); parts = append-nil (redo_of state.editing.edits.current) }
-parts-react state End shut fit =
-    parts-judged (not_open state.editing.edits.depth) state.editing (closing state.editing)
-    (λ fits none. parts-closing state.editing (open_unless state.editing.edits.depth none)) fit
-parts-react state Undo shut fit =
-    let editing = state.editing in
-    let steps = undo_steps editing in
-    parts-judged (group_refusal editing editing.edits.undo steps) editing (undone reply.Edited editing steps)
-    (λ fits none. parts-group editing editing.edits.undo steps steps (gone_back (length steps) editing.edits) reply.Edited shut refl refl none) fit
-parts-react state Redo shut fit =
-    let editing = state.editing in
-    let steps = redo_steps editing in
-    parts-judged (group_refusal editing editing.edits.redo steps) editing (redone reply.Edited editing steps)
-    (λ fits none. parts-group editing editing.edits.redo steps steps (gone_forth (length steps) editing.edits) reply.Edited shut refl refl none) fit
-parts-react state (Check rule) shut fit = parts-none state.editing
-parts-react state command shut fit = parts-quiet state _ (quiet state _ (still state command tt))
-
 -- a command that makes no primitive is not cut
 pub uncut : (state : State) (reaction : Reaction) (n : ℕ) → reaction.made ≡ [] → n < length reaction.made → ⊥
 uncut state reaction n none within = let few : n < 0 = rw none at within in absurd (omega arith)
@@ -404,54 +278,258 @@ no_made (Some cause) editing n within = absurd (omega arith)
 pub no_end : (editing : Editing) (n : ℕ) → n < length (judged (not_open editing.edits.depth) editing (closing editing)).made → ⊥
 no_end editing n within = no_made (not_open editing.edits.depth) editing n within
 
-pub parts-cut : (state : State) (command : Command) (n : ℕ) → (state.editing.edits.depth ≡ 0 → state.editing.edits.current ≡ [])
-    → n < length (react_command state command).made
-    → FitsAfter state (edited state (cut_reaction state.editing command n)) → PartsOf state (edited state (cut_reaction state.editing command n))
-parts-cut state (Edit change) n shut within fit =
-    parts-changed reply.Cut state.editing (take n (steps_of change (text_of state.editing))) shut fit
-parts-cut state Begin n shut within fit = absurd (omega arith)
-parts-cut state End n shut within fit = absurd (no_end state.editing n within)
-parts-cut state Undo n shut within fit =
-    let editing = state.editing in
-    let steps = undo_steps editing in
-    let ps = take n steps in
-    parts-group editing editing.edits.undo steps ps (gone_back (length ps) editing.edits) reply.Cut shut refl refl
-    (not_refused (group_refusal editing editing.edits.undo steps) editing (undone reply.Edited editing steps) n within)
-parts-cut state Redo n shut within fit =
-    let editing = state.editing in
-    let steps = redo_steps editing in
-    let ps = take n steps in
-    parts-group editing editing.edits.redo steps ps (gone_forth (length ps) editing.edits) reply.Cut shut refl refl
-    (not_refused (group_refusal editing editing.edits.redo steps) editing (redone reply.Edited editing steps) n within)
-parts-cut state (Check rule) n shut within fit = absurd (omega arith)
-parts-cut state command n shut within fit = absurd (uncut state (react_command state command) n (still state command tt).made within)
-
 -- what is cut in a session that may be closed is not refused
 pub within_open : (state : State) (reaction : Reaction) (n : ℕ) → n < length (unless_closed state reaction).made → n < length reaction.made
 within_open state reaction n =
     unless (λ (r : Reaction). n < length r.made → n < length reaction.made) state reaction (λ within. absurd (omega arith)) (λ within. within)
 
-parts-open : (state : State) (command : Command) → (state.editing.edits.depth ≡ 0 → state.editing.edits.current ≡ [])
-    → FitsAfter state (unless_closed state (react_command state command)) → PartsOf state (unless_closed state (react_command state command))
-parts-open state command shut =
-    unless (λ (r : Reaction). FitsAfter state r → PartsOf state r) state (react_command state command)
-    (λ fit. parts-none state.editing) (λ fit. parts-react state command shut fit)
-
 -- a request that is no command is not cut
 pub no_cut : (state : State) (seat : ℕ) (request : Request) (n : ℕ) → (IsCommand request → ⊥) → n < length (react state seat request).made → ⊥
 no_cut state seat request n none within = uncut state (react state seat request) n (quiet_unless state seat request none).made within
 
+-- ---- the open transaction
+
+-- the primitives of the open transaction with those made
+abbrev pub opened : State → Reaction → List Primitive
+opened state came = redo_of state.editing.edits.current ++ came.made
+
+-- They are finished where no transaction is open any more, and else they are those of the open one.
+-- A call outside is asked for without an edit
+pub record Moves (state : State) (came : Reaction) : Type 0 where
+  pub finished : came.finished ≡ finished_at came.after.editing.edits.depth (opened state came)
+  pub current : redo_of came.after.editing.edits.current
+      ≡ (if came.after.editing.edits.depth == 0 then [] else opened state came)
+  pub asked : came.reply ≡ reply.Asked → (came.after.editing ≡ state.editing) × (came.made ≡ [])
+
+-- no primitive is in the open transaction while none is open
+abbrev pub IsShut : State → Type 0
+IsShut state = state.editing.edits.depth ≡ 0 → redo_of state.editing.edits.current ≡ []
+
+-- the primitives are made in a text that they fit
+abbrev pub FitsAfter : State → Reaction → Type 0
+FitsAfter state reaction = FitInTurn reaction.after.editing.trail state.editing.loaded.text
+
+-- nothing is made
+quiet-finished : (depth : ℕ) (ps : List Primitive) → (depth ≡ 0 → ps ≡ []) → None ≡ finished_at depth (ps ++ [])
+quiet-finished depth ps shut =
+    elim (cases_Bool (depth == 0)) [
+      | inl t ↦ rw (t, shut (eqb-true depth 0 t)) refl
+      | inr f ↦ rw f refl
+    ]
+
+quiet-current : (depth : ℕ) (ps : List Primitive) → (depth ≡ 0 → ps ≡ []) → ps ≡ (if depth == 0 then [] else ps ++ [])
+quiet-current depth ps shut =
+    elim (cases_Bool (depth == 0)) [
+      | inl t ↦ rw t (shut (eqb-true depth 0 t))
+      | inr f ↦ rw f (sym (append-nil ps))
+    ]
+
+moves-quiet : (state : State) (came : Reaction) → IsQuiet state came → IsShut state → Moves state came
+moves-quiet state came quiet shut =
+    let ps = redo_of state.editing.edits.current in
+    record {
+      finished = rw (quiet.made, quiet.finished, quiet.editing) (quiet-finished state.editing.edits.depth ps shut);
+      current = rw (quiet.made, quiet.editing) (quiet-current state.editing.edits.depth ps shut);
+      asked = λ is. (quiet.editing, quiet.made);
+    }
+
+moves-judged : (judgement : Option Refusal) (state : State) (made : EditReaction) → IsShut state
+    → (FitsAfter state (edited state made) → judgement ≡ None → Moves state (edited state made))
+    → FitsAfter state (edited state (judged judgement state.editing made))
+    → Moves state (edited state (judged judgement state.editing made))
+moves-judged None state made shut moves fit = moves fit refl
+moves-judged (Some cause) state made shut moves fit =
+    moves-quiet state (edited state (judged (Some cause) state.editing made)) (record { editing = refl; made = refl; finished = refl }) shut
+
+-- a transaction is opened
+moves-begin : (state : State) → Moves state (edited state (begin_reaction state.editing))
+moves-begin state =
+    let f : (state.editing.edits.depth + 1 == 0) ≡ false = ne_eqb (state.editing.edits.depth + 1) 0 (λ e. absurd (omega arith)) in
+    record {
+      finished = rw f refl;
+      current = rw f (sym (append-nil (redo_of state.editing.edits.current)));
+      asked = λ is. absurd (cc);
+    }
+
+-- a transaction is closed
+ended-current : (edits : Edits) → 0 < edits.depth
+    → redo_of (ended edits).current ≡ (if (ended edits).depth == 0 then [] else redo_of edits.current ++ [])
+ended-current edits some =
+    elim (cases_Bool (edits.depth == 1)) [
+      | inl t ↦
+          let one = eqb-true edits.depth 1 t in
+          let zero : (ended edits).depth ≡ 0 = omega (arith, depth-ended edits, one) in
+          rw (zero, none-ended edits one) refl
+      | inr f ↦
+          let more : (edits.depth - 1 == 0) ≡ false = ne_eqb (edits.depth - 1) 0 (λ zero. absurd (eqb-false edits.depth 1 f (omega arith))) in
+          rw (f, more) (sym (append-nil (redo_of edits.current)))
+    ]
+
+moves-closing : (state : State) → 0 < state.editing.edits.depth → Moves state (edited state (closing state.editing))
+moves-closing state some =
+    let ps = redo_of state.editing.edits.current in
+    record {
+      finished = ap (λ (qs : List Primitive). finished_at (ended state.editing.edits).depth qs) (sym (append-nil ps));
+      current = ended-current state.editing.edits some;
+      asked = λ is. absurd (cc);
+    }
+
+-- a change
+moves-changed : (told : ℕ → ℕ → ℕ → Reply) → ((steps revision depth : ℕ) → told steps revision depth ≢ reply.Asked)
+    → (state : State) (ps : List Primitive) → IsShut state → FitInTurn ps (text_of state.editing)
+    → Moves state (edited state (changed told state.editing ps))
+moves-changed told never state ps shut fit =
+    let edits = state.editing.edits in
+    let steps = steps_along ps (text_of state.editing) in
+    let same = depth-noted steps edits in
+    elim (cases_Bool (edits.depth == 0)) [
+      | inl t ↦
+          let zero = eqb-true edits.depth 0 t in
+          let none : redo_of edits.current ≡ [] = shut zero in
+          let shut_now : (noted_change steps edits).current ≡ [] = rw t (none-ended (noted_all steps (begun edits)) (omega arith)) in
+          let now : ((noted_change steps edits).depth == 0) ≡ true = ap (λ (d : ℕ). d == 0) same ∙ t in
+          record {
+            finished = ap (λ (qs : List Primitive). finished_at (noted_change steps edits).depth (qs ++ ps)) (sym none);
+            current = rw now (ap redo_of shut_now);
+            asked = λ is. absurd (never _ _ _ is);
+          }
+      | inr f ↦
+          let now : ((noted_change steps edits).depth == 0) ≡ false = ap (λ (d : ℕ). d == 0) same ∙ f in
+          let is : (noted_change steps edits).current ≡ edits.current ++ steps = rw f refl in
+          record {
+            finished = rw now refl;
+            current = rw now (ap redo_of is ∙ map-append forth_of edits.current steps
+                ∙ ap (λ (qs : List Primitive). redo_of edits.current ++ qs) (redoes ps (text_of state.editing) fit));
+            asked = λ is. absurd (never _ _ _ is);
+          }
+    ]
+
+-- primitives that are a transaction of their own, as those of an undo and a redo are
+moves-alone : (told : ℕ → ℕ → ℕ → Reply) → ((steps revision depth : ℕ) → told steps revision depth ≢ reply.Asked)
+    → (state : State) (ps : List Primitive) (edits : Edits) → IsShut state → state.editing.edits.depth ≡ 0
+    → edits.depth ≡ state.editing.edits.depth → edits.current ≡ state.editing.edits.current
+    → Moves state (edited state (carried told state.editing ps edits))
+moves-alone told never state ps edits shut zero depth current =
+    let none : redo_of state.editing.edits.current ≡ [] = shut zero in
+    let t : (edits.depth == 0) ≡ true = eq-eqb edits.depth 0 (depth ∙ zero) in
+    record {
+      finished = ap (λ (qs : List Primitive). finished_at edits.depth (qs ++ ps)) (sym none);
+      current = rw t (ap redo_of current ∙ none);
+      asked = λ is. absurd (never _ _ _ is);
+    }
+
+-- a reply that steps were made is no request outside
+edited_is : (steps revision depth : ℕ) → reply.Edited steps revision depth ≢ reply.Asked
+edited_is steps revision depth is = cc
+
+cut_is : (steps revision depth : ℕ) → reply.Cut steps revision depth ≢ reply.Asked
+cut_is steps revision depth is = cc
+
+-- a command
+moves : (state : State) (command : Command) → IsShut state → FitsAfter state (react_command state command)
+    → Moves state (react_command state command)
+moves state (Edit change) shut fit =
+    let editing = state.editing in
+    let ps = steps_of change (text_of editing) in
+    moves-judged (change_refusal editing change) state (changed reply.Edited editing ps) shut
+    (λ fits none. moves-changed reply.Edited edited_is state ps shut (FitInTurn-later editing.trail ps editing.loaded.text fits)) fit
+moves state Begin shut fit = moves-begin state
+moves state End shut fit =
+    moves-judged (not_open state.editing.edits.depth) state (closing state.editing) shut
+    (λ fits none. moves-closing state (open_unless state.editing.edits.depth none)) fit
+moves state Undo shut fit =
+    let editing = state.editing in
+    let ps = undo_steps editing in
+    moves-judged (group_refusal editing editing.edits.undo ps) state (undone reply.Edited editing ps) shut
+    (λ fits none. moves-alone reply.Edited edited_is state ps (gone_back (length ps) editing.edits) shut
+    (shut_unless editing editing.edits.undo ps none) refl refl) fit
+moves state Redo shut fit =
+    let editing = state.editing in
+    let ps = redo_steps editing in
+    moves-judged (group_refusal editing editing.edits.redo ps) state (redone reply.Edited editing ps) shut
+    (λ fits none. moves-alone reply.Edited edited_is state ps (gone_forth (length ps) editing.edits) shut
+    (shut_unless editing editing.edits.redo ps none) refl refl) fit
+moves state (Check rule) shut fit =
+    moves-quiet state (react_command state (Check rule)) (record { editing = refl; made = refl; finished = refl }) shut
+moves state command shut fit = moves-quiet state _ (quiet state _ (still state command tt)) shut
+
+-- .. that is cut
+moves-cut : (state : State) (command : Command) (n : ℕ) → IsShut state → n < length (react_command state command).made
+    → FitsAfter state (edited state (cut_reaction state.editing command n)) → Moves state (edited state (cut_reaction state.editing command n))
+moves-cut state (Edit change) n shut within fit =
+    let ps = take n (steps_of change (text_of state.editing)) in
+    moves-changed reply.Cut cut_is state ps shut (FitInTurn-later state.editing.trail ps state.editing.loaded.text fit)
+moves-cut state Begin n shut within fit = absurd (omega arith)
+moves-cut state End n shut within fit = absurd (no_end state.editing n within)
+moves-cut state Undo n shut within fit =
+    let editing = state.editing in
+    let steps = undo_steps editing in
+    let ps = take n steps in
+    moves-alone reply.Cut cut_is state ps (gone_back (length ps) editing.edits) shut
+    (shut_unless editing editing.edits.undo steps
+    (not_refused (group_refusal editing editing.edits.undo steps) editing (undone reply.Edited editing steps) n within)) refl refl
+moves-cut state Redo n shut within fit =
+    let editing = state.editing in
+    let steps = redo_steps editing in
+    let ps = take n steps in
+    moves-alone reply.Cut cut_is state ps (gone_forth (length ps) editing.edits) shut
+    (shut_unless editing editing.edits.redo steps
+    (not_refused (group_refusal editing editing.edits.redo steps) editing (redone reply.Edited editing steps) n within)) refl refl
+moves-cut state (Check rule) n shut within fit = absurd (omega arith)
+moves-cut state command n shut within fit = absurd (uncut state (react_command state command) n (still state command tt).made within)
+
+moves-open : (state : State) (command : Command) → IsShut state → FitsAfter state (unless_closed state (react_command state command))
+    → Moves state (unless_closed state (react_command state command))
+moves-open state command shut =
+    unless (λ (r : Reaction). FitsAfter state r → Moves state r) state (react_command state command)
+    (λ fit. moves-quiet state (refused state Closed) (record { editing = refl; made = refl; finished = refl }) shut)
+    (λ fit. moves state command shut fit)
+
+-- each request
+pub moves-by : (state : State) (seat : ℕ) (request : Request) (o : Option ℕ) → IsShut state → CutsBetween (react state seat request).made o
+    → FitsAfter state (react_by state seat request o) → Moves state (react_by state seat request o)
+moves-by state seat (Cmd command) None shut cut fit = moves-open state command shut fit
+moves-by state seat (Cmd command) (Some n) shut cut fit = moves-cut state command n shut (within_open state (react_command state command) n cut.1) fit
+moves-by state seat Close None shut cut fit = moves-quiet state _ (quiet_unless state seat Close (λ is. is)) shut
+moves-by state seat Take None shut cut fit = moves-quiet state _ (quiet_unless state seat Take (λ is. is)) shut
+moves-by state seat (Deliver job findings) None shut cut fit = moves-quiet state _ (quiet_unless state seat (Deliver job findings) (λ is. is)) shut
+moves-by state seat (GiveBack job) None shut cut fit = moves-quiet state _ (quiet_unless state seat (GiveBack job) (λ is. is)) shut
+moves-by state seat (Outcome call ok) None shut cut fit = moves-quiet state _ (quiet_unless state seat (Outcome call ok) (λ is. is)) shut
+moves-by state seat Close (Some n) shut cut fit = absurd (no_cut state seat Close n (λ is. is) cut.1)
+moves-by state seat Take (Some n) shut cut fit = absurd (no_cut state seat Take n (λ is. is) cut.1)
+moves-by state seat (Deliver job findings) (Some n) shut cut fit = absurd (no_cut state seat (Deliver job findings) n (λ is. is) cut.1)
+moves-by state seat (GiveBack job) (Some n) shut cut fit = absurd (no_cut state seat (GiveBack job) n (λ is. is) cut.1)
+moves-by state seat (Outcome call ok) (Some n) shut cut fit = absurd (no_cut state seat (Outcome call ok) n (λ is. is) cut.1)
+
+-- primitives that are a transaction of their own
+alone : (ps : List Primitive) → ps ≡ primitives_in (option_to_list (if_made ps)) ++ []
+alone [] = refl
+alone (p ∷ ps) = sym (append-nil ((p ∷ ps) ++ []) ∙ append-nil (p ∷ ps))
+
+either_at : (depth : ℕ) (ps : List Primitive)
+    → ps ≡ primitives_in (option_to_list (finished_at depth ps)) ++ (if depth == 0 then [] else ps)
+either_at depth ps =
+    elim (cases_Bool (depth == 0)) [
+      | inl t ↦ rw t (alone ps)
+      | inr f ↦ rw f refl
+    ]
+
+-- what was open and what was made are what is finished and what is open then
+pub finished_and_open : (state : State) (came : Reaction) → Moves state came
+    → opened state came ≡ primitives_in (option_to_list came.finished) ++ redo_of came.after.editing.edits.current
+finished_and_open state came moves =
+    let rest = if came.after.editing.edits.depth == 0 then [] else opened state came in
+    either_at came.after.editing.edits.depth (opened state came)
+    ∙ ap (λ (o : Option (List Primitive)). primitives_in (option_to_list o) ++ rest) (sym moves.finished)
+    ∙ ap (λ (ps : List Primitive). primitives_in (option_to_list came.finished) ++ ps) (sym moves.current)
+
+-- .. for callers
+pub record Parts (before : Editing) (made : List Primitive) (finished : Option (List Primitive)) (after : Editing) : Type 0 where
+  pub parts : redo_of before.edits.current ++ made ≡ primitives_in (option_to_list finished) ++ redo_of after.edits.current
+
 pub parts-by : (state : State) (seat : ℕ) (request : Request) (o : Option ℕ) → (state.editing.edits.depth ≡ 0 → state.editing.edits.current ≡ [])
-    → CutsBetween (react state seat request).made o → FitsAfter state (react_by state seat request o) → PartsOf state (react_by state seat request o)
-parts-by state seat (Cmd command) None shut cut fit = parts-open state command shut fit
-parts-by state seat (Cmd command) (Some n) shut cut fit = parts-cut state command n shut (within_open state (react_command state command) n cut.1) fit
-parts-by state seat Close None shut cut fit = parts-quiet state _ (quiet_unless state seat Close (λ is. is))
-parts-by state seat Take None shut cut fit = parts-quiet state _ (quiet_unless state seat Take (λ is. is))
-parts-by state seat (Deliver job findings) None shut cut fit = parts-quiet state _ (quiet_unless state seat (Deliver job findings) (λ is. is))
-parts-by state seat (GiveBack job) None shut cut fit = parts-quiet state _ (quiet_unless state seat (GiveBack job) (λ is. is))
-parts-by state seat (Outcome call ok) None shut cut fit = parts-none state.editing
-parts-by state seat Close (Some n) shut cut fit = absurd (no_cut state seat Close n (λ is. is) cut.1)
-parts-by state seat Take (Some n) shut cut fit = absurd (no_cut state seat Take n (λ is. is) cut.1)
-parts-by state seat (Deliver job findings) (Some n) shut cut fit = absurd (no_cut state seat (Deliver job findings) n (λ is. is) cut.1)
-parts-by state seat (GiveBack job) (Some n) shut cut fit = absurd (no_cut state seat (GiveBack job) n (λ is. is) cut.1)
-parts-by state seat (Outcome call ok) (Some n) shut cut fit = absurd (no_cut state seat (Outcome call ok) n (λ is. is) cut.1)
+    → CutsBetween (react state seat request).made o → FitsAfter state (react_by state seat request o)
+    → Parts state.editing (react_by state seat request o).made (react_by state seat request o).finished (react_by state seat request o).after.editing
+parts-by state seat request o shut cut fit =
+    let moves = moves-by state seat request o (λ none. ap redo_of (shut none)) cut fit in
+    record { parts = finished_and_open state (react_by state seat request o) moves }

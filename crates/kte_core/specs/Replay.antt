@@ -85,16 +85,18 @@ transactions state (event ∷ events) =
 abbrev pub primitives_in : List (List Primitive) → List Primitive
 primitives_in transactions = flat_map (λ transaction. transaction) transactions
 
--- each event is answered in the state after those before it
-abbrev pub Answered : State → List Event → Type 0
-Answered state [] = Unit {0}
-Answered state (event ∷ events) =
-    IsAnswered state event × Answered (after_event state event) events
+-- this holds of each event, in the state after those before it
+abbrev pub EachIn : (State → Event → Type 0) → State → List Event → Type 0
+EachIn P state [] = Unit {0}
+EachIn P state (event ∷ events) = P state event × EachIn P (after_event state event) events
 
--- each event may come in the state after those before it
+-- each event is answered
+abbrev pub Answered : State → List Event → Type 0
+Answered = EachIn IsAnswered
+
+-- each event may come
 abbrev pub Legal : State → List Event → Type 0
-Legal state [] = Unit {0}
-Legal state (event ∷ events) = IsLegal state event × Legal (after_event state event) events
+Legal = EachIn IsLegal
 
 -- the state now
 abbrev pub present : Session → State

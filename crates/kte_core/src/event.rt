@@ -1,4 +1,4 @@
-ghost use Rattle.std.specs.Prelude.{◌≡◌, ◌+◌, ◌<◌, ◌≤◌, ◌↔◌, [], ◌∷◌, ◌++◌, length, OnOk, OnErr, IsTrue, slice_get, Some};
+ghost use Rattle.std.specs.Prelude.{◌≡◌, ◌+◌, ◌^◌, ◌<◌, ◌≤◌, ◌↔◌, [], ◌∷◌, ◌++◌, length, OnOk, OnErr, IsTrue, slice_get, Some};
 
 use crate::reply::Reply;
 use crate::request::Request;
@@ -92,7 +92,8 @@ impl Journal {
 
     /// Returns the number of events.
     pub fn len(&self) -> u64
-        ensures { result ≡ length self.now.events }
+        ensures count { result ≡ length self.now.events }
+        ensures short { result < 2 ^ 63 }
     {
         self.events.len() as u64
     }

@@ -37,26 +37,6 @@ fn ask(alloc: Global, core: &mut Core, command: Command) -> Result<Step, Fail>
     step(alloc, core, 0, Request::Cmd(command))
 }
 
-/// Asks for an insertion at a place.
-fn insert(alloc: Global, core: &mut Core, at: Place, text: &[u8]) -> Result<Reply, Fail> {
-    let text = load(alloc, text)?.text;
-    let change = Change::Insert { at, text };
-    Ok(ask(alloc, core, Command::Edit { change })?.reply)
-}
-
-/// Asks for a removal between two places.
-fn remove(alloc: Global, core: &mut Core, from: Place, to: Place) -> Result<Reply, Fail> {
-    let span = Span::new(from, to);
-    let change = Change::Remove { span };
-    Ok(ask(alloc, core, Command::Edit { change })?.reply)
-}
-
-/// Asks for a line to be split at its start.
-fn wrap(alloc: Global, core: &mut Core) -> Result<Reply, Fail> {
-    let change = Change::Wrap { at: place(0, 0) };
-    Ok(ask(alloc, core, Command::Edit { change })?.reply)
-}
-
 /// The reply to an edit outside of any transaction.
 fn edited(steps: u64, revision: u64) -> Reply {
     Reply::Edited {
@@ -72,6 +52,68 @@ fn assert_reply(rt: &impl Abort, alloc: Global, reply: &Reply, want: &Reply) -> 
     let want = format!(in alloc; "{want:?}")?;
     assert_eq!(rt; shown.as_str(), want.as_str());
     Ok(())
+}
+
+/// Asks for something as a seat, and checks the reply.
+fn assert_step(
+    rt: &impl Abort,
+    alloc: Global,
+    core: &mut Core,
+    seat: u32,
+    request: Request,
+    want: &Reply,
+) -> Result<(), Fail>
+    requires allowed { IsAllowed seat request }
+    requires few { ranges_of request ≤ 99 }
+{
+    assert_reply(rt, alloc, &step(alloc, core, seat, request)?.reply, want)
+}
+
+/// Asks for a command, and checks the reply.
+fn assert_ask(
+    rt: &impl Abort,
+    alloc: Global,
+    core: &mut Core,
+    command: Command,
+    want: &Reply,
+) -> Result<(), Fail>
+    requires { InRange command }
+{
+    assert_step(rt, alloc, core, 0, Request::Cmd(command), want)
+}
+
+/// Asks for an insertion at a place, and checks the reply.
+fn assert_insert(
+    rt: &impl Abort,
+    alloc: Global,
+    core: &mut Core,
+    at: Place,
+    text: &[u8],
+    want: &Reply,
+) -> Result<(), Fail> {
+    let text = load(alloc, text)?.text;
+    let change = Change::Insert { at, text };
+    assert_ask(rt, alloc, core, Command::Edit { change }, want)
+}
+
+/// Asks for a removal between two places, and checks the reply.
+fn assert_remove(
+    rt: &impl Abort,
+    alloc: Global,
+    core: &mut Core,
+    from: Place,
+    to: Place,
+    want: &Reply,
+) -> Result<(), Fail> {
+    let span = Span::new(from, to);
+    let change = Change::Remove { span };
+    assert_ask(rt, alloc, core, Command::Edit { change }, want)
+}
+
+/// Asks for the first line to be split at its start, and checks the reply.
+fn assert_wrap(rt: &impl Abort, alloc: Global, core: &mut Core, want: &Reply) -> Result<(), Fail> {
+    let change = Change::Wrap { at: place(0, 0) };
+    assert_ask(rt, alloc, core, Command::Edit { change }, want)
 }
 
 /// The present text of a core, with `|` in front of each line.
@@ -97,12 +139,7 @@ fn steps_of_an_insertion_is_made_and_is_an_event(
     alloc: Global,
     core: &mut Core,
 ) -> Result<(), Fail> {
-    assert_reply(
-        rt,
-        alloc,
-        &insert(alloc, core, place(0, 5), b"!")?,
-        &edited(1, 1),
-    )?;
+    assert_insert(rt, alloc, core, place(0, 5), b"!", &edited(1, 1))?;
     assert_eq!(rt; shown(alloc, core)?.as_str(), "|hello!|");
     assert_eq!(rt; core.copy_text(alloc)?.len(), 2);
     assert_eq!(rt; core.doc().revision(), 1);
@@ -127,12 +164,7 @@ fn steps_of_a_refused_change_is_an_event_and_changes_nothing(
     core: &mut Core,
 ) -> Result<(), Fail> {
     let refused = Reply::Refused(Refusal::Misfit(Misfit::NoColumn { line: 0, column: 6 }));
-    assert_reply(
-        rt,
-        alloc,
-        &insert(alloc, core, place(0, 6), b"!")?,
-        &refused,
-    )?;
+    assert_insert(rt, alloc, core, place(0, 6), b"!", &refused)?;
     assert_eq!(rt; shown(alloc, core)?.as_str(), "|hello|");
     assert_eq!(rt; core.undo_counts(), (0, 0));
 
@@ -168,15 +200,10 @@ fn steps_of_a_span_is_judged_at_its_start_first(
     ];
     for (from, to, misfit) in table {
         let refused = Reply::Refused(Refusal::Misfit(misfit));
-        assert_reply(rt, alloc, &remove(alloc, core, from, to)?, &refused)?;
+        assert_remove(rt, alloc, core, from, to, &refused)?;
     }
     assert_eq!(rt; shown(alloc, core)?.as_str(), "|ab|cd");
-    assert_reply(
-        rt,
-        alloc,
-        &remove(alloc, core, place(0, 0), place(1, 2))?,
-        &edited(3, 3),
-    )?;
+    assert_remove(rt, alloc, core, place(0, 0), place(1, 2), &edited(3, 3))?;
     assert_eq!(rt; shown(alloc, core)?.as_str(), "|");
     Ok(())
 }
@@ -193,12 +220,7 @@ fn steps_of_an_insertion_of_nothing_makes_no_revision(
     alloc: Global,
     core: &mut Core,
 ) -> Result<(), Fail> {
-    assert_reply(
-        rt,
-        alloc,
-        &insert(alloc, core, place(0, 0), b"")?,
-        &edited(0, 0),
-    )?;
+    assert_insert(rt, alloc, core, place(0, 0), b"", &edited(0, 0))?;
     assert_eq!(rt; core.undo_counts(), (0, 0));
     assert_eq!(rt; core.journal().len(), 1);
     Ok(())
@@ -217,10 +239,10 @@ fn steps_of_no_revision_is_made_past_the_limit(
     core: &mut Core,
 ) -> Result<(), Fail> {
     let full = Reply::Refused(Refusal::RevisionsFull { revision: 2 });
-    assert_reply(rt, alloc, &wrap(alloc, core)?, &edited(1, 1))?;
-    assert_reply(rt, alloc, &wrap(alloc, core)?, &edited(1, 2))?;
-    assert_reply(rt, alloc, &wrap(alloc, core)?, &full)?;
-    assert_reply(rt, alloc, &ask(alloc, core, Command::Undo)?.reply, &full)?;
+    assert_wrap(rt, alloc, core, &edited(1, 1))?;
+    assert_wrap(rt, alloc, core, &edited(1, 2))?;
+    assert_wrap(rt, alloc, core, &full)?;
+    assert_ask(rt, alloc, core, Command::Undo, &full)?;
     assert_eq!(rt; shown(alloc, core)?.as_str(), "|||");
     assert_eq!(rt; core.undo_counts(), (2, 0));
     assert_eq!(rt; core.journal().len(), 4);
@@ -239,12 +261,7 @@ fn steps_of_a_text_of_two_lines_is_inserted(
     alloc: Global,
     core: &mut Core,
 ) -> Result<(), Fail> {
-    assert_reply(
-        rt,
-        alloc,
-        &insert(alloc, core, place(0, 1), b"a\nb")?,
-        &edited(3, 3),
-    )?;
+    assert_insert(rt, alloc, core, place(0, 1), b"a\nb", &edited(3, 3))?;
     assert_eq!(rt; shown(alloc, core)?.as_str(), "|xa|by");
     Ok(())
 }
@@ -269,19 +286,9 @@ fn steps_of_a_span_over_three_lines_is_replaced(
     assert_reply(rt, alloc, &step.reply, &edited(5, 5))?;
     assert_eq!(rt; step.made.len(), 5);
     assert_eq!(rt; shown(alloc, core)?.as_str(), "|zc");
-    assert_reply(
-        rt,
-        alloc,
-        &ask(alloc, core, Command::Undo)?.reply,
-        &edited(5, 10),
-    )?;
+    assert_ask(rt, alloc, core, Command::Undo, &edited(5, 10))?;
     assert_eq!(rt; shown(alloc, core)?.as_str(), "|a|b|c");
-    assert_reply(
-        rt,
-        alloc,
-        &ask(alloc, core, Command::Redo)?.reply,
-        &edited(5, 15),
-    )?;
+    assert_ask(rt, alloc, core, Command::Redo, &edited(5, 15))?;
     assert_eq!(rt; shown(alloc, core)?.as_str(), "|zc");
     Ok(())
 }
@@ -299,28 +306,13 @@ fn steps_of_a_change_is_undone_and_redone_once(
     core: &mut Core,
 ) -> Result<(), Fail> {
     let nothing = Reply::Refused(Refusal::Nothing);
-    assert_reply(
-        rt,
-        alloc,
-        &remove(alloc, core, place(0, 0), place(0, 1))?,
-        &edited(1, 1),
-    )?;
-    assert_reply(
-        rt,
-        alloc,
-        &ask(alloc, core, Command::Undo)?.reply,
-        &edited(1, 2),
-    )?;
+    assert_remove(rt, alloc, core, place(0, 0), place(0, 1), &edited(1, 1))?;
+    assert_ask(rt, alloc, core, Command::Undo, &edited(1, 2))?;
     assert_eq!(rt; shown(alloc, core)?.as_str(), "|ab");
     assert_eq!(rt; core.undo_counts(), (0, 1));
-    assert_reply(rt, alloc, &ask(alloc, core, Command::Undo)?.reply, &nothing)?;
-    assert_reply(
-        rt,
-        alloc,
-        &ask(alloc, core, Command::Redo)?.reply,
-        &edited(1, 3),
-    )?;
-    assert_reply(rt, alloc, &ask(alloc, core, Command::Redo)?.reply, &nothing)?;
+    assert_ask(rt, alloc, core, Command::Undo, &nothing)?;
+    assert_ask(rt, alloc, core, Command::Redo, &edited(1, 3))?;
+    assert_ask(rt, alloc, core, Command::Redo, &nothing)?;
     assert_eq!(rt; shown(alloc, core)?.as_str(), "|b");
     assert_eq!(rt; core.undo_counts(), (1, 0));
     Ok(())
@@ -346,23 +338,13 @@ fn steps_of_nothing_is_undone_in_an_open_transaction(
     };
     let open = Reply::Refused(Refusal::StillOpen { depth: 1 });
     let not_open = Reply::Refused(Refusal::NotOpen);
-    assert_reply(rt, alloc, &ask(alloc, core, Command::Undo)?.reply, &nothing)?;
-    assert_reply(
-        rt,
-        alloc,
-        &ask(alloc, core, Command::Begin)?.reply,
-        &Reply::Depth { depth: 1 },
-    )?;
-    assert_reply(rt, alloc, &insert(alloc, core, place(0, 0), b"a")?, &inside)?;
+    assert_ask(rt, alloc, core, Command::Undo, &nothing)?;
+    assert_ask(rt, alloc, core, Command::Begin, &Reply::Depth { depth: 1 })?;
+    assert_insert(rt, alloc, core, place(0, 0), b"a", &inside)?;
     assert_eq!(rt; core.depth(), 1);
-    assert_reply(rt, alloc, &ask(alloc, core, Command::Undo)?.reply, &open)?;
-    assert_reply(
-        rt,
-        alloc,
-        &ask(alloc, core, Command::End)?.reply,
-        &Reply::Depth { depth: 0 },
-    )?;
-    assert_reply(rt, alloc, &ask(alloc, core, Command::End)?.reply, &not_open)?;
+    assert_ask(rt, alloc, core, Command::Undo, &open)?;
+    assert_ask(rt, alloc, core, Command::End, &Reply::Depth { depth: 0 })?;
+    assert_ask(rt, alloc, core, Command::End, &not_open)?;
     assert_eq!(rt; core.undo_counts(), (1, 0));
     assert_eq!(rt; core.depth(), 0);
     Ok(())
@@ -380,28 +362,13 @@ fn steps_of_only_a_group_that_is_kept_empties_what_may_be_redone(
     alloc: Global,
     core: &mut Core,
 ) -> Result<(), Fail> {
-    assert_reply(rt, alloc, &wrap(alloc, core)?, &edited(1, 1))?;
-    assert_reply(
-        rt,
-        alloc,
-        &ask(alloc, core, Command::Undo)?.reply,
-        &edited(1, 2),
-    )?;
+    assert_wrap(rt, alloc, core, &edited(1, 1))?;
+    assert_ask(rt, alloc, core, Command::Undo, &edited(1, 2))?;
     let _ = ask(alloc, core, Command::Begin)?;
     let _ = ask(alloc, core, Command::End)?;
-    assert_reply(
-        rt,
-        alloc,
-        &insert(alloc, core, place(0, 0), b"")?,
-        &edited(0, 2),
-    )?;
+    assert_insert(rt, alloc, core, place(0, 0), b"", &edited(0, 2))?;
     assert_eq!(rt; core.undo_counts(), (0, 1));
-    assert_reply(
-        rt,
-        alloc,
-        &insert(alloc, core, place(0, 0), b"x")?,
-        &edited(1, 3),
-    )?;
+    assert_insert(rt, alloc, core, place(0, 0), b"x", &edited(1, 3))?;
     assert_eq!(rt; core.undo_counts(), (1, 0));
     assert_eq!(rt; shown(alloc, core)?.as_str(), "|xab");
     Ok(())
@@ -422,32 +389,16 @@ fn steps_of_a_finding_lands_from_the_revision_at_which_its_job_was_taken(
     core: &mut Core,
 ) -> Result<(), Fail> {
     let check = Command::Check { rule: Rule::Blanks };
-    assert_reply(
-        rt,
-        alloc,
-        &ask(alloc, core, check)?.reply,
-        &Reply::Posted { job: 1 },
-    )?;
+    assert_ask(rt, alloc, core, check, &Reply::Posted { job: 1 })?;
     assert!(rt; matches!(core.rule(1), Some(Rule::Blanks)));
     let took = Reply::Took {
         job: 1,
         revision: 0,
     };
-    assert_reply(
-        rt,
-        alloc,
-        &step(alloc, core, 1, Request::Take)?.reply,
-        &took,
-    )?;
+    assert_step(rt, alloc, core, 1, Request::Take, &took)?;
     assert_eq!(rt; core.waiting(), None);
-    let removed = remove(alloc, core, place(0, 1), place(1, 3))?;
-    assert_reply(rt, alloc, &removed, &edited(2, 2))?;
-    assert_reply(
-        rt,
-        alloc,
-        &ask(alloc, core, Command::Undo)?.reply,
-        &edited(2, 4),
-    )?;
+    assert_remove(rt, alloc, core, place(0, 1), place(1, 3), &edited(2, 2))?;
+    assert_ask(rt, alloc, core, Command::Undo, &edited(2, 4))?;
     let saved = core.saved_form(alloc)?;
     assert_eq!(rt; saved.as_slice(), b"x\na  ".as_slice());
     let delivered = Reply::Delivered {
@@ -458,7 +409,7 @@ fn steps_of_a_finding_lands_from_the_revision_at_which_its_job_was_taken(
     assert_reply(rt, alloc, &deliver(alloc, core, 1, 1)?, &delivered)?;
     let invalid = Reply::Range { id: 1, span: None };
     let show = Command::ShowRange { id: 1 };
-    assert_reply(rt, alloc, &ask(alloc, core, show)?.reply, &invalid)?;
+    assert_ask(rt, alloc, core, show, &invalid)?;
     Ok(())
 }
 
@@ -499,48 +450,18 @@ fn steps_of_a_job_is_refused_to_other_seats(
         revision: 0,
     };
     let returned = Reply::Returned { job: 1 };
-    assert_reply(
-        rt,
-        alloc,
-        &step(alloc, core, 1, Request::Take)?.reply,
-        &no_job,
-    )?;
-    assert_reply(rt, alloc, &give_back(alloc, core, 1)?, &not_taken)?;
+    assert_step(rt, alloc, core, 1, Request::Take, &no_job)?;
+    assert_step(rt, alloc, core, 1, Request::GiveBack { job: 1 }, &not_taken)?;
     let check = Command::Check { rule: Rule::Pairs };
-    assert_reply(
-        rt,
-        alloc,
-        &ask(alloc, core, check)?.reply,
-        &Reply::Posted { job: 1 },
-    )?;
-    assert_reply(rt, alloc, &give_back(alloc, core, 1)?, &not_taken)?;
-    assert_reply(
-        rt,
-        alloc,
-        &step(alloc, core, 1, Request::Take)?.reply,
-        &took,
-    )?;
-    assert_reply(rt, alloc, &give_back(alloc, core, 2)?, &not_taken)?;
+    assert_ask(rt, alloc, core, check, &Reply::Posted { job: 1 })?;
+    assert_step(rt, alloc, core, 1, Request::GiveBack { job: 1 }, &not_taken)?;
+    assert_step(rt, alloc, core, 1, Request::Take, &took)?;
+    assert_step(rt, alloc, core, 2, Request::GiveBack { job: 1 }, &not_taken)?;
     assert_reply(rt, alloc, &deliver(alloc, core, 2, 1)?, &not_taken)?;
-    assert_reply(rt, alloc, &give_back(alloc, core, 1)?, &returned)?;
-    assert_reply(
-        rt,
-        alloc,
-        &step(alloc, core, 2, Request::Take)?.reply,
-        &took,
-    )?;
-    assert_reply(
-        rt,
-        alloc,
-        &step(alloc, core, 1, Request::Take)?.reply,
-        &no_job,
-    )?;
+    assert_step(rt, alloc, core, 1, Request::GiveBack { job: 1 }, &returned)?;
+    assert_step(rt, alloc, core, 2, Request::Take, &took)?;
+    assert_step(rt, alloc, core, 1, Request::Take, &no_job)?;
     Ok(())
-}
-
-/// Gives the first job back.
-fn give_back(alloc: Global, core: &mut Core, seat: u32) -> Result<Reply, Fail> {
-    Ok(step(alloc, core, seat, Request::GiveBack { job: 1 })?.reply)
 }
 
 #[test]
@@ -558,49 +479,19 @@ fn steps_of_a_closed_session_refuses_each_command(
     let open = Reply::Refused(Refusal::StillOpen { depth: 1 });
     let closed = Reply::Refused(Refusal::Closed);
     let no_job = Reply::Refused(Refusal::NoJob { closed: true });
-    assert_reply(
-        rt,
-        alloc,
-        &ask(alloc, core, Command::Sync)?.reply,
-        &Reply::Asked,
-    )?;
-    assert_reply(
-        rt,
-        alloc,
-        &ask(alloc, core, Command::Save)?.reply,
-        &Reply::Asked,
-    )?;
+    assert_ask(rt, alloc, core, Command::Sync, &Reply::Asked)?;
+    assert_ask(rt, alloc, core, Command::Save, &Reply::Asked)?;
     let _ = ask(alloc, core, Command::Begin)?;
-    assert_reply(rt, alloc, &ask(alloc, core, Command::Sync)?.reply, &open)?;
-    assert_reply(rt, alloc, &ask(alloc, core, Command::Save)?.reply, &open)?;
-    assert_reply(
-        rt,
-        alloc,
-        &step(alloc, core, 0, Request::Close)?.reply,
-        &Reply::Closed,
-    )?;
+    assert_ask(rt, alloc, core, Command::Sync, &open)?;
+    assert_ask(rt, alloc, core, Command::Save, &open)?;
+    assert_step(rt, alloc, core, 0, Request::Close, &Reply::Closed)?;
     assert!(rt; core.is_closed());
-    assert_reply(
-        rt,
-        alloc,
-        &step(alloc, core, 0, Request::Close)?.reply,
-        &closed,
-    )?;
-    assert_reply(rt, alloc, &ask(alloc, core, Command::End)?.reply, &closed)?;
-    assert_reply(
-        rt,
-        alloc,
-        &step(alloc, core, 1, Request::Take)?.reply,
-        &no_job,
-    )?;
+    assert_step(rt, alloc, core, 0, Request::Close, &closed)?;
+    assert_ask(rt, alloc, core, Command::End, &closed)?;
+    assert_step(rt, alloc, core, 1, Request::Take, &no_job)?;
     let (call, ok) = (OutsideCall::Save, true);
     let outcome = Request::Outcome { call, ok };
-    assert_reply(
-        rt,
-        alloc,
-        &step(alloc, core, 0, outcome)?.reply,
-        &Reply::Noted,
-    )?;
+    assert_step(rt, alloc, core, 0, outcome, &Reply::Noted)?;
     Ok(())
 }
 
@@ -616,18 +507,10 @@ fn a_journal_keeps_its_events(rt: HostRuntime) -> Result<(), Fail> {
         })?;
     }
     assert_eq!(rt; journal.len(), 2);
-    assert_reply(
-        &rt,
-        rt.alloc(),
-        &journal.get(0).reply,
-        &Reply::Dropped { id: 7 },
-    )?;
-    assert_reply(
-        &rt,
-        rt.alloc(),
-        &journal.get(1).reply,
-        &Reply::Dropped { id: 8 },
-    )?;
+    let first = &journal.get(0).reply;
+    assert_reply(&rt, rt.alloc(), first, &Reply::Dropped { id: 7 })?;
+    let second = &journal.get(1).reply;
+    assert_reply(&rt, rt.alloc(), second, &Reply::Dropped { id: 8 })?;
     Ok(())
 }
 
@@ -647,12 +530,8 @@ fn steps_of_a_fold_hides_lines_and_crosses_no_other(
         id: 1,
         span: Some(Span::new(place(0, 1), place(2, 0))),
     };
-    assert_reply(
-        rt,
-        alloc,
-        &fold(alloc, core, place(0, 1), place(2, 0))?,
-        &stands,
-    )?;
+    let made = fold(alloc, core, place(0, 1), place(2, 0))?;
+    assert_reply(rt, alloc, &made, &stands)?;
     let table = [
         (place(1, 0), place(3, 1), FoldRefused::Crosses { id: 1 }),
         (place(1, 1), place(1, 1), FoldRefused::EmptySpan),
@@ -666,32 +545,17 @@ fn steps_of_a_fold_hides_lines_and_crosses_no_other(
     let no_range = Reply::Refused(Refusal::NoRange { id: 1 });
     let show = Command::ShowRange { id: 1 };
     let drop = Command::DropRange { id: 1 };
-    assert_reply(rt, alloc, &ask(alloc, core, show)?.reply, &no_range)?;
-    assert_reply(rt, alloc, &ask(alloc, core, drop)?.reply, &no_range)?;
+    assert_ask(rt, alloc, core, show, &no_range)?;
+    assert_ask(rt, alloc, core, drop, &no_range)?;
     assert_eq!(rt; hidden(alloc, core)?.as_str(), "-++-");
 
     // Removing the fold's text makes it invalid; it is a fold yet.
-    assert_reply(
-        rt,
-        alloc,
-        &remove(alloc, core, place(0, 1), place(2, 0))?,
-        &edited(3, 3),
-    )?;
+    assert_remove(rt, alloc, core, place(0, 1), place(2, 0), &edited(3, 3))?;
     assert_eq!(rt; hidden(alloc, core)?.as_str(), "--");
     let no_fold = Reply::Refused(Refusal::NoFold { id: 1 });
     let dropped = Reply::Dropped { id: 1 };
-    assert_reply(
-        rt,
-        alloc,
-        &ask(alloc, core, Command::Unfold { id: 1 })?.reply,
-        &dropped,
-    )?;
-    assert_reply(
-        rt,
-        alloc,
-        &ask(alloc, core, Command::Unfold { id: 1 })?.reply,
-        &no_fold,
-    )?;
+    assert_ask(rt, alloc, core, Command::Unfold { id: 1 }, &dropped)?;
+    assert_ask(rt, alloc, core, Command::Unfold { id: 1 }, &no_fold)?;
     assert_eq!(rt; core.doc().next_id(), 2);
     Ok(())
 }
@@ -733,40 +597,25 @@ fn steps_of_matches_are_found(rt: &impl Abort, alloc: Global, core: &mut Core) -
     };
     let mut spans = one(alloc, 0)?;
     spans.push(Span::new(place(0, 4), place(0, 7)))?;
-    assert_reply(
-        rt,
-        alloc,
-        &ask(alloc, core, all)?.reply,
-        &Reply::Found { spans },
-    )?;
+    assert_ask(rt, alloc, core, all, &Reply::Found { spans })?;
     let find = Command::Find {
         from: Place { line: 0, column: 1 },
         query: foo(rt, alloc, false, false)?,
     };
     let spans = one(alloc, 8)?;
-    assert_reply(
-        rt,
-        alloc,
-        &ask(alloc, core, find)?.reply,
-        &Reply::Found { spans },
-    )?;
+    assert_ask(rt, alloc, core, find, &Reply::Found { spans })?;
     let find_back = Command::FindBack {
         before: Place { line: 0, column: 8 },
         query: foo(rt, alloc, true, false)?,
     };
     let spans = one(alloc, 4)?;
-    assert_reply(
-        rt,
-        alloc,
-        &ask(alloc, core, find_back)?.reply,
-        &Reply::Found { spans },
-    )?;
+    assert_ask(rt, alloc, core, find_back, &Reply::Found { spans })?;
     let find = Command::Find {
         from: Place { line: 0, column: 9 },
         query: foo(rt, alloc, false, false)?,
     };
     let no_match = Reply::Refused(Refusal::NoMatch);
-    assert_reply(rt, alloc, &ask(alloc, core, find)?.reply, &no_match)?;
+    assert_ask(rt, alloc, core, find, &no_match)?;
     assert_eq!(rt; core.journal().len(), 4);
     Ok(())
 }

@@ -39,10 +39,11 @@ pub fn run_all<R: Threads + Wait + Sync, E: Actor, A: Actor>(
     join_mut(rt, &mut || first.act(rt), &mut || run_each(rt, others));
 }
 
-// `for_each_mut` asks for at least one thread
-fn run_each<R: Threads + Wait + Sync, A: Actor>(rt: &R, actors: &mut [A])
+/// Runs actors beside one another. Returns once all have acted.
+pub fn run_each<R: Threads + Wait + Sync, A: Actor>(rt: &R, actors: &mut [A])
     ensures { EachDone A.done actors.old actors.new }
 {
+    // `for_each_mut` asks for at least one thread.
     if actors.is_empty() {
         return;
     }

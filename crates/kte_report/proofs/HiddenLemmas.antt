@@ -12,13 +12,13 @@ use Rattle.std.specs.FinMap.{get}
 use Rattle.kte_doc.specs.Documents.{Document}
 use Rattle.kte_doc.specs.Standings.{spans_of}
 use Rattle.kte_fold.specs.Folds.{Spans, is_fold, hides, is_hidden, visible_before, visible_of}
-use Rattle.kte_fold.specs.Tree.{Outline, KeepsTree}
+use Rattle.kte_fold.specs.Tree.{Outline}
 use Rattle.kte_core.specs.Editing.{text_of}
 use Rattle.kte_core.specs.State.{State}
 use Rattle.kte_core.specs.Folds.{folds_of, spans_now, is_line_hidden}
 use Rattle.kte_core.specs.Shown.{IsOf}
 use Rattle.kte_report.specs.Report.{joined_to, runs_of, hidden_lines}
-use Rattle.kte_report.proofs.RangeLemmas.{spans_alike}
+use Rattle.kte_core.proofs.FoldMapLemmas.{spans_alike}
 
 -- ---- runs, from the front
 
@@ -178,11 +178,6 @@ pub hidden_alike : (state : State) (document : Document) (folds : Outline) → I
 hidden_alike state document folds shown numbers line =
     ap (λ (spans : Spans). is_hidden spans folds.numbers line) (spans_alike state document shown)
     ∙ any_same (λ id. hides (get (spans_now state) id) line) folds.numbers (folds_of state.ranges) numbers
-
-pub tree_shown : (state : State) (document : Document) (folds : Outline) → IsOf state document
-    → KeepsTree (spans_now state) folds.numbers folds.inside → KeepsTree (spans_of document.ranges) folds.numbers folds.inside
-tree_shown state document folds shown tree =
-    subst (λ (spans : Spans). KeepsTree spans folds.numbers folds.inside) (sym (spans_alike state document shown)) tree
 
 pub none_shown : (state : State) (document : Document) (folds : Outline) (lines : ℕ) → IsOf state document
     → ((id : ℕ) → is_fold folds.numbers id ≡ is_fold (folds_of state.ranges) id) → lines ≡ length document.text → 0 < length document.text

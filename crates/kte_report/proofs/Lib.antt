@@ -11,7 +11,7 @@ pub mod JournalLemmas
 pub mod SplitLemmas
 pub mod ReadingLemmas
 mod JournalExamples
-mod Ascii
+pub mod Ascii
 mod ReportExamples
 mod RecoveryExamples
 pub mod RangeLemmas

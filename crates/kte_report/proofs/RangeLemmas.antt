@@ -1,29 +1,25 @@
 -- The ranges of a state and those of its document, entry by entry.
-use Rattle.std.proofs.Common.{◌≡◌, ℕ, ◌+◌, ◌<◌, zero, suc, Bool, true, false, ◌&&◌, cond, map, List, [], ◌∷◌, ◌++◌, length, take, get_or, T, codes, Option, Some, refl, sym, ap, subst, ◌∙◌, append_assoc, append-nil, arith}
+use Rattle.std.proofs.Common.{◌≡◌, ℕ, ◌+◌, ◌<◌, zero, suc, true, map, List, [], ◌∷◌, ◌++◌, length, take, get_or, codes, Option, Some, None, refl, sym, ap, subst, ◌∙◌, append_assoc, append-nil, arith}
+use Rattle.std.specs.Prelude.{option_and_then}
 use Rattle.std.specs.Option.{option_map}
-use Rattle.std.specs.List.{flat_map, filter_map, cons_option, slice_get}
-use Rattle.std.specs.Ordering.{nat_cmp, eq_by_cmp, is_lt}
-use Rattle.std.specs.Cmp.{nat_cmp_total}
-use Rattle.std.specs.FinMap.{FinMap, get, keys, entries, entries_sorted, find, is_sorted, same_map, nat_cmp-IsAntisymmetric, from_sorted, entries-from_sorted, get-from_sorted, get-entries, from_entries}
+use Rattle.std.specs.List.{flat_map, slice_get}
+use Rattle.std.specs.Ordering.{nat_cmp}
+use Rattle.std.specs.FinMap.{FinMap, get, keys, entries, entries_sorted, find, is_sorted, get-entries}
 use Rattle.std.specs.FinMap.Entries.{below_all}
 use Rattle.std.proofs.lemmas.Bool.Decides.{nat_tests}
 use Rattle.std.proofs.lemmas.Grind.{flat_map-append}
 use Rattle.std.proofs.lemmas.List.{take_more, length-map}
 use Rattle.std.proofs.lemmas.Option.{get_or_from_slice_get}
 use Rattle.kte_place.specs.Ends.{Ends}
-use Rattle.kte_doc.specs.Standings.{Standing, Standings, spans_of}
+use Rattle.kte_doc.specs.Standings.{Standing, Standings}
 use Rattle.kte_doc.specs.Documents.{Document}
-use Rattle.kte_core.specs.State.{State, Range, stands}
-use Rattle.kte_core.specs.Folds.{spans_now}
+use Rattle.kte_core.specs.State.{State, Range}
 use Rattle.kte_core.specs.Shown.{range_of, IsOf}
+use Rattle.kte_core.proofs.FoldMapLemmas.{from_T, changed_by, entries-changed_by}
 use Rattle.kte_report.specs.Report.{number_line, range_line, standing_line, range_lines}
 use Rattle.kte_report.specs.Shown.{shown_line, shown_lines}
 
 -- ---- entries
-
-from_T : (b : Bool) → T b → b ≡ true
-from_T true h = refl
-from_T false h = absurd h
 
 module _ {X : Type 0} where
   -- a key below all others is below each of them
@@ -89,77 +85,35 @@ shown-push ranges n id start before after within is was pushed =
 
 -- ---- the ranges of a state
 
-module _ {X Y : Type 0} (f : X → Y) where
-  -- each value changed
-  abbrev with_values : List (ℕ × X) → List (ℕ × Y)
-  with_values es = map (λ e. (e.0, f e.1)) es
+-- entries of a document as those of its state: without where the ranges stand
+abbrev of_state : List (ℕ × Standing) → List (ℕ × Range)
+of_state es = changed_by (λ standing. Some (range_of standing)) es
 
-  find-with_values : (q : ℕ) (es : List (ℕ × X)) → find nat_cmp q (with_values es) ≡ option_map f (find nat_cmp q es)
-  find-with_values q [] = refl
-  find-with_values q (e ∷ es) =
-      elim (eq_by_cmp nat_cmp q e.0) as (λ b. cond b (Some (f e.1)) (find nat_cmp q (with_values es)) ≡ option_map f (cond b (Some e.1) (find nat_cmp q es))) [
-        | true ↦ refl
-        | false ↦ find-with_values q es
-      ]
+mapped : (o : Option Standing) → option_map range_of o ≡ option_and_then (λ standing. Some (range_of standing)) o
+mapped None = refl
+mapped (Some standing) = refl
 
-  below_all-with_values : (x : ℕ) (es : List (ℕ × X)) → below_all nat_cmp x (with_values es) ≡ below_all nat_cmp x es
-  below_all-with_values x [] = refl
-  below_all-with_values x (e ∷ es) = ap (λ b. is_lt (nat_cmp x e.0) && b) (below_all-with_values x es)
-
-  is_sorted-with_values : (es : List (ℕ × X)) → is_sorted nat_cmp (with_values es) ≡ is_sorted nat_cmp es
-  is_sorted-with_values [] = refl
-  is_sorted-with_values (e ∷ es) =
-      ap (λ b. b && is_sorted nat_cmp (with_values es)) (below_all-with_values e.0 es)
-      ∙ ap (λ b. below_all nat_cmp e.0 es && b) (is_sorted-with_values es)
-
-  -- a map that has each value of another changed has its entries changed
-  entries-changed : (old : FinMap nat_cmp X) (new : FinMap nat_cmp Y) → ((id : ℕ) → option_map f (get old id) ≡ get new id) → entries new ≡ with_values (entries old)
-  entries-changed old new changed =
-      let es = with_values (entries old) in
-      let rising : T (is_sorted nat_cmp es) = subst T (sym (is_sorted-with_values (entries old))) (entries_sorted old) in
-      let same : new ≡ from_sorted es =
-      same_map nat_cmp_total nat_cmp-IsAntisymmetric new (from_sorted es)
-      (λ q. sym (changed q) ∙ ap (option_map f) (get-entries old q) ∙ sym (find-with_values q (entries old)) ∙ sym (get-from_sorted nat_cmp es q rising)) in
-      ap entries same ∙ entries-from_sorted nat_cmp es rising
-
-  flat_map-changed : (g : ℕ × X → List ℕ) (h : ℕ × Y → List ℕ) (es : List (ℕ × X))
-      → ((n : ℕ) (e : ℕ × X) → slice_get es n ≡ Some e → h (e.0, f e.1) ≡ g e) → flat_map h (with_values es) ≡ flat_map g es
-  flat_map-changed g h [] same = refl
-  flat_map-changed g h (e ∷ es) same =
-      ap (λ (first : List ℕ). first ++ flat_map h (with_values es)) (same 0 e refl)
-      ∙ ap (λ (rest : List ℕ). g e ++ rest) (flat_map-changed g h es (λ n x at. same (suc n) x at))
-
-  filter_map-changed : {Z : Type 0} (g : ℕ × X → Option Z) (h : ℕ × Y → Option Z) (es : List (ℕ × X))
-      → ((n : ℕ) (e : ℕ × X) → slice_get es n ≡ Some e → h (e.0, f e.1) ≡ g e) → filter_map h (with_values es) ≡ filter_map g es
-  filter_map-changed {Z = Z} g h [] same = refl
-  filter_map-changed {Z = Z} g h (e ∷ es) same =
-      ap (λ (o : Option Z). cons_option o (filter_map h (with_values es))) (same 0 e refl)
-      ∙ ap (cons_option (g e)) (filter_map-changed g h es (λ n x at. same (suc n) x at))
-
-  length-with_values : (es : List (ℕ × X)) → length (with_values es) ≡ length es
-  length-with_values es = length-map es (λ (e : ℕ × X). (e.0, f e.1))
-
--- the ranges of a state are those of its document, without where they stand
-entries_are : (state : State) (document : Document) → IsOf state document → entries state.ranges ≡ with_values range_of (entries document.ranges)
-entries_are state document is = entries-changed range_of document.ranges state.ranges is.ranges
+entries_are : (state : State) (document : Document) → IsOf state document → entries state.ranges ≡ of_state (entries document.ranges)
+entries_are state document is =
+    entries-changed_by (λ standing. Some (range_of standing)) document.ranges state.ranges
+    (λ id. sym (is.ranges id) ∙ mapped (get document.ranges id))
 
 -- there are as many
-pub count_alike : (state : State) (document : Document) → IsOf state document → length (entries document.ranges) ≡ length (entries state.ranges)
-count_alike state document is =
-    sym (ap length (entries_are state document is) ∙ length-with_values range_of (entries document.ranges))
+length-of_state : (es : List (ℕ × Standing)) → length (of_state es) ≡ length es
+length-of_state [] = refl
+length-of_state (e ∷ es) = omega (arith, length-of_state es)
 
--- the valid ones stand in the document where they do in the state
-pub spans_alike : (state : State) (document : Document) → IsOf state document → spans_of document.ranges ≡ spans_now state
-spans_alike state document is =
-    let es = entries document.ranges in
-    let span : (n : ℕ) (e : ℕ × Standing) → slice_get es n ≡ Some e
-    → option_map (λ (span : Ends). (e.0, span)) (stands state.editing (range_of e.1)) ≡ option_map (λ (span : Ends). (e.0, span)) e.1.span =
-    λ n e at. ap (option_map (λ (span : Ends). (e.0, span))) (sym (is.came.ranges e.0 e.1 (get-at document.ranges n e at)).span) in
-    sym (ap (λ (es : List (ℕ × Range)). from_entries (filter_map (λ e. option_map (λ span. (e.0, span)) (stands state.editing e.1)) es))
-    (entries_are state document is)
-    ∙ ap (λ (es : List (ℕ × Ends)). from_entries es)
-    (filter_map-changed range_of (λ e. option_map (λ span. (e.0, span)) e.1.span)
-    (λ e. option_map (λ span. (e.0, span)) (stands state.editing e.1)) es span))
+pub count_alike : (state : State) (document : Document) → IsOf state document → length (entries document.ranges) ≡ length (entries state.ranges)
+count_alike state document is = sym (ap length (entries_are state document is) ∙ length-of_state (entries document.ranges))
+
+-- what is shown of each is shown of all
+lines-of_state : (line : ℕ × Range → List ℕ) (es : List (ℕ × Standing))
+    → ((n : ℕ) (e : ℕ × Standing) → slice_get es n ≡ Some e → line (e.0, range_of e.1) ≡ shown_line e.0 e.1)
+    → flat_map line (of_state es) ≡ shown_all es
+lines-of_state line [] same = refl
+lines-of_state line (e ∷ es) same =
+    ap (λ (first : List ℕ). first ++ flat_map line (of_state es)) (same 0 e refl)
+    ∙ ap (λ (rest : List ℕ). shown_line e.0 e.1 ++ rest) (lines-of_state line es (λ n x at. same (suc n) x at))
 
 -- what a document shows is what the report has of its state
 pub shown : (state : State) (document : Document) → IsOf state document → shown_lines document.ranges ≡ range_lines state
@@ -169,6 +123,6 @@ shown state document is =
     λ n e at. ap (λ (span : Option Ends). range_line e.0 e.1.kind e.1.expand e.1.empty span) (sym (is.came.ranges e.0 e.1 (get-at document.ranges n e at)).span) in
     let lines : flat_map (standing_line state.editing) (entries state.ranges) ≡ shown_all es =
     ap (flat_map (standing_line state.editing)) (entries_are state document is)
-    ∙ flat_map-changed range_of (λ e. shown_line e.0 e.1) (standing_line state.editing) es line in
+    ∙ lines-of_state (standing_line state.editing) es line in
     ap (λ (n : ℕ). number_line (codes "ranges") n ++ shown_all es) (count_alike state document is)
     ∙ ap (λ (rest : List ℕ). number_line (codes "ranges") (length (entries state.ranges)) ++ rest) (sym lines)

@@ -1,7 +1,7 @@
 -- The parts of a report, one after another.
-use Rattle.std.proofs.Common.{◌≡◌, ℕ, ◌≤◌, List, ◌++◌, length, take, codes, refl, sym, ap, ◌∙◌, append_assoc, arith}
+use Rattle.std.specs.Prelude.{OnErr}
+use Rattle.std.proofs.Common.{◌≡◌, ℕ, List, ◌++◌, Result, Ok, Err, length, codes, ap, ◌∙◌, append_assoc}
 use Rattle.std.specs.FinMap.{entries}
-use Rattle.std.proofs.lemmas.List.{length-append, take-take, take_at}
 use Rattle.kte_doc.specs.Documents.{Document}
 use Rattle.kte_core.specs.Editing.{text_of, saved_form}
 use Rattle.kte_core.specs.State.{State}
@@ -10,26 +10,35 @@ use Rattle.kte_script.specs.Spelled.{Keeps}
 use Rattle.kte_report.specs.Report.{number_line, size_lines, group_lines, count_lines, range_lines, hidden_text, hidden_lines, digest_line, text_lines, report, summary}
 use Rattle.kte_report.specs.Shown.{shown_lines}
 use Rattle.kte_report.proofs.RangeLemmas.{shown}
+pub use Rattle.kte_script.proofs.CallerLemmas.{keeps, keeps_three, keeps_four}
 
--- what was in front of a part is in front of what the part is in front of
-pub keeps : (old s mid new : List ℕ) → mid ≡ old ++ s → take (length mid) new ≡ mid → take (length old) new ≡ old
-keeps old s mid new e h =
-    let le : length old ≤ length mid = rw e (omega (arith, length-append old s)) in
-    let front : take (length old) (take (length mid) new) ≡ take (length old) new = take-take (length old) (length mid) new le in
-    sym front ∙ ap (take (length old)) (h ∙ e) ∙ take_at old s (length old) refl
-
--- .. after two parts, three, four and five
+-- what was in front of two parts is in front of what comes after them; and of five
 pub keeps_two : (old s t a b new : List ℕ) → a ≡ old ++ s → b ≡ a ++ t → Keeps b new → Keeps old new
 keeps_two old s t a b new p q h = keeps old s a new p (keeps a t b new q h)
 
-pub keeps_three : (old s t u a b c new : List ℕ) → a ≡ old ++ s → b ≡ a ++ t → c ≡ b ++ u → Keeps c new → Keeps old new
-keeps_three old s t u a b c new p q r h = keeps_two old s t a b new p q (keeps b u c new r h)
-
-pub keeps_four : (old s t u v a b c d new : List ℕ) → a ≡ old ++ s → b ≡ a ++ t → c ≡ b ++ u → d ≡ c ++ v → Keeps d new → Keeps old new
-keeps_four old s t u v a b c d new p q r w h = keeps_three old s t u a b c new p q r (keeps c v d new w h)
-
-pub keeps_five : (old s t u v w a b c d e new : List ℕ) → a ≡ old ++ s → b ≡ a ++ t → c ≡ b ++ u → d ≡ c ++ v → e ≡ d ++ w → Keeps e new → Keeps old new
+pub keeps_five : (old s t u v w a b c d e new : List ℕ) → a ≡ old ++ s → b ≡ a ++ t → c ≡ b ++ u → d ≡ c ++ v → e ≡ d ++ w
+    → Keeps e new → Keeps old new
 keeps_five old s t u v w a b c d e new p q r x y h = keeps_four old s t u v a b c d new p q r x (keeps d w e new y h)
+
+-- these lemmas together
+pub ruleset keeps_all = (keeps, keeps_two, keeps_three, keeps_four, keeps_five)
+
+-- an error after three parts, four and five leaves what was in front of them
+after_err : {E : Type 0} (r : Result (Unit {0}) E) (P : Type 0) → P → OnErr r P
+after_err (Ok value) P h = tt
+after_err (Err error) P h = h
+
+pub fails_three : {E : Type 0} (r : Result (Unit {0}) E) (old s t u a b c new : List ℕ) → a ≡ old ++ s → b ≡ a ++ t → c ≡ b ++ u
+    → Keeps c new → OnErr r (Keeps old new)
+fails_three r old s t u a b c new p q w h = after_err r (Keeps old new) (keeps_three old s t u a b c new p q w h)
+
+pub fails_four : {E : Type 0} (r : Result (Unit {0}) E) (old s t u v a b c d new : List ℕ) → a ≡ old ++ s → b ≡ a ++ t → c ≡ b ++ u
+    → d ≡ c ++ v → Keeps d new → OnErr r (Keeps old new)
+fails_four r old s t u v a b c d new p q w x h = after_err r (Keeps old new) (keeps_four old s t u v a b c d new p q w x h)
+
+pub fails_five : {E : Type 0} (r : Result (Unit {0}) E) (old s t u v w a b c d e new : List ℕ) → a ≡ old ++ s → b ≡ a ++ t → c ≡ b ++ u
+    → d ≡ c ++ v → e ≡ d ++ w → Keeps e new → OnErr r (Keeps old new)
+fails_five r old s t u v w a b c d e new p q x y z h = after_err r (Keeps old new) (keeps_five old s t u v w a b c d e new p q x y z h)
 
 -- six parts, one after another
 pub six_parts : (start s t u v w x a b c d e last : List ℕ) → a ≡ start ++ s → b ≡ a ++ t → c ≡ b ++ u → d ≡ c ++ v → e ≡ d ++ w → last ≡ e ++ x

@@ -1,32 +1,16 @@
 -- What is appended, one part after another.
-use Rattle.std.proofs.Common.{◌≡◌, ℕ, zero, suc, ◌+◌, ◌≤◌, List, [], ◌∷◌, ◌++◌, Some, length, map, take, Result, Ok, Err, sym, ap, ◌∙◌, append_assoc, append-nil, add-one, arith, refl}
+use Rattle.std.proofs.Common.{◌≡◌, ℕ, zero, suc, ◌+◌, List, [], ◌∷◌, ◌++◌, Some, map, take, Result, Ok, Err, sym, ap, ◌∙◌, append_assoc, append-nil, add-one}
 use Rattle.std.specs.Prelude.{codes, OnOk}
 use Rattle.std.specs.declared.alloc.AllocError.{AllocError}
 use Rattle.std.specs.Fmt.{decimal}
 use Rattle.std.specs.List.{slice_get}
-use Rattle.std.proofs.lemmas.List.{length-append, take-take, take_at, map-append}
+use Rattle.std.proofs.lemmas.List.{map-append}
 use Rattle.kte_core.specs.declared.event.Event.{Event}
+pub use Rattle.kte_script.proofs.CallerLemmas.{keeps, two_parts, one_field, two_fields}
 use Rattle.kte_report.specs.Lines.{text_of_lines}
 use Rattle.kte_report.specs.Events.{request_spelling, reply_spelling, event_text}
 use Rattle.kte_report.specs.Journal.{head}
 use Rattle.kte_report.proofs.LineLemmas.{text-append}
-
--- what was in front of a part is in front of what the part is in front of
-pub keeps : (old s mid new : List ℕ) → mid ≡ old ++ s → take (length mid) new ≡ mid → take (length old) new ≡ old
-keeps old s mid new e h =
-    let le : length old ≤ length mid = rw e (omega (arith, length-append old s)) in
-    let front : take (length old) (take (length mid) new) ≡ take (length old) new = take-take (length old) (length mid) new le in
-    sym front ∙ ap (take (length old)) (h ∙ e) ∙ take_at old s (length old) refl
-
--- a word and the fields after it
-pub one_field : (old w f a b : List ℕ) → a ≡ old ++ w → b ≡ a ++ f → b ≡ old ++ (w ++ (f ++ []))
-one_field old w f a b p q = q ∙ ap (λ (xs : List ℕ). xs ++ f) p ∙ simp (append_assoc, append-nil)
-
-pub two_fields : (old w f g a b c : List ℕ) → a ≡ old ++ w → b ≡ a ++ f → c ≡ b ++ g → c ≡ old ++ (w ++ (f ++ (g ++ [])))
-two_fields old w f g a b c p q r = r ∙ ap (λ (xs : List ℕ). xs ++ g) (q ∙ ap (λ (xs : List ℕ). xs ++ f) p) ∙ simp (append_assoc, append-nil)
-
-pub two_parts : (old w f a b : List ℕ) → a ≡ old ++ w → b ≡ a ++ f → b ≡ old ++ (w ++ f)
-two_parts old w f a b p q = q ∙ ap (λ (xs : List ℕ). xs ++ f) p ∙ append_assoc old w f
 
 take_suc : (events : List Event) (n : ℕ) (event : Event) → slice_get events n ≡ Some event → take (suc n) events ≡ take n events ++ event ∷ []
 take_suc [] n event e = absurd cc

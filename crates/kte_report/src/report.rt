@@ -79,7 +79,7 @@ pub fn push_summary(
 }
 
 /// Appends the parts of the summary of a run. If out of memory, some may have been appended.
-#[tactic(auto, using(crate::proofs::ReportLemmas::keeps, crate::proofs::ReportLemmas::keeps_two))]
+#[tactic(auto, using(crate::proofs::ReportLemmas::keeps_all))]
 fn push_summary_parts(
     core: &Core,
     commands: u32,

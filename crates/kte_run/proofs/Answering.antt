@@ -1,6 +1,6 @@
 -- What an edit says, wherever it ends.
 use Rattle.std.proofs.Common.{◌≡◌, ◌≢◌, ◌⊎◌, inl, inr, ◌∙◌, ℕ, ◌<◌, Bool, true, false, List, [], ◌∷◌, length, Option, Some, None, Result, Ok, Err, IfSome, IsOk, IsSomeAnd, Contains, refl, sym, ap, subst, arith}
-use Rattle.std.specs.Io.KnownBytes.{Appends, IsAtEnd}
+use Rattle.std.specs.Io.KnownBytes.{Appends}
 use Rattle.std.proofs.lemmas.Bool.{true≢false}
 use Rattle.std.proofs.lemmas.List.Elements.{All-contains, All-nil, All-cons}
 use Rattle.std.proofs.lemmas.Option.{none-some}
@@ -27,7 +27,8 @@ use Rattle.kte_script.specs.Script.{script_of}
 use Rattle.kte_run.specs.declared.status.Status.{Status}
 use Rattle.kte_run.specs.declared.status.Status.TheVariants as status
 use Rattle.kte_run.specs.Outcomes.{Begins, Ended, ReadsStay}
-use Rattle.kte_run.specs.Run.{FilesStay, IsEdit, IsLoadable, LoadRose, Outer, Outside, Outputs, Prints, WasLoaded, WasRead, WasWritten, Writes, WritesPrefix}
+use Rattle.kte_run.specs.Edit.{EndsEarly, Inputs, IsBegun, IsEdited, IsWritten, beside, inputs}
+use Rattle.kte_run.specs.Run.{FailedBefore, FilesStay, IsEdit, IsLoadable, LoadRose, Outer, Outside, Outputs, Prints, WasLoaded, WasRead, WasWritten, Writes, WritesPrefix}
 use Rattle.kte_run.specs.Statuses.{file_status, sink_status, is_of_edit, is_of_file, is_of_script, is_of_swap}
 use Rattle.kte_run.proofs.Files.{later, if_is, some_same, swap_both}
 use Rattle.kte_run.proofs.OutputLemmas.{Prints-from}
@@ -173,14 +174,14 @@ of-file (Some file) P bytes same holds = subst P same holds
 
 -- ---- a run that ends at its script
 
-pub ends-at-script : (before : Outside) (left : Option (List ℕ)) (faults : ℕ) (disk_stays sink_stays : Type 0) (given : Status)
+pub ends-at-script : (workers : ℕ) (before : Outside) (left : Option (List ℕ)) (faults : ℕ) (disk_stays sink_stays : Type 0) (given : Status)
     → disk_stays → sink_stays → is_of_script given ≡ true
     → (given ≡ status.ReadFault → Rose before.script_faults faults)
     → (before.script_faults < faults → given ≡ status.ReadFault)
     → ((fault : ScriptFault) → given ≡ status.BadScript fault → (fault ≢ script_fault.NoMemory) × (faults ≡ before.script_faults)
     × IfSome before.left (λ bytes. script_of bytes ≡ Err fault))
-    → IsEdit before (record before { left = left; script_faults = faults }) disk_stays sink_stays given
-ends-at-script before left faults disk_stays sink_stays given idle quiet only rose comes bad = record {
+    → IsEdit workers before (record before { left = left; script_faults = faults }) disk_stays sink_stays given
+ends-at-script workers before left faults disk_stays sink_stays given idle quiet only rose comes bad = record {
   ok = λ is. absurd (never status.Ok refl is);
   swap_lost = λ is. absurd (never status.SwapLost refl is);
   swap_lost_rose = λ is. absurd (never status.SwapLost refl is);
@@ -198,7 +199,7 @@ ends-at-script before left faults disk_stays sink_stays given idle quiet only ro
   refused_comes = λ fault spells empty refuses. script-spelled given (file_status fault) status.DiskFault only (spelled spells);
   write_fault = λ is. absurd (never status.WriteFault refl is);
   write_fault_comes = λ more. absurd (omega (arith, more));
-  prefix = λ which. unwritten before.left (saved_now before.disk.moments) (before.got ≡ before.got) (λ script file. WritesPrefix script file before.disk before.disk before.got before.got) refl;
+  prefix = λ which. unwritten before.left (saved_now before.disk.moments) (before.got ≡ before.got) (λ script file. WritesPrefix workers script file before.disk before.disk before.got before.got) refl;
   complete = λ spells empty loadable. script-complete given only (spelled spells);
   only = edit-of-script given only;
 } where
@@ -238,15 +239,15 @@ one-of-all : (given : Status) → (given ≡ status.DiskFault) ⊎ (given ≡ st
 one-of-all given (inl is) = (2, omega arith, sym is)
 one-of-all given (inr is) = (5, omega arith, sym is)
 
-pub ends-at-swap : (before : Outside) (left : Option (List ℕ)) (faults : ℕ) (disk : Outer) (disk_stays sink_stays : Type 0) (given : Status)
+pub ends-at-swap : (workers : ℕ) (before : Outside) (left : Option (List ℕ)) (faults : ℕ) (disk : Outer) (disk_stays sink_stays : Type 0) (given : Status)
     → sink_stays → WasRead before (record before { left = left; script_faults = faults; disk = disk }) → is_of_swap given ≡ true
     → FilesStay before.disk disk
     → (given ≡ status.DiskFault → Rose (before.disk.faults SwapLen) (disk.faults SwapLen))
     → ((call : DiskCall) → before.disk.faults call < disk.faults call → given ≡ status.DiskFault)
     → ((bytes : ℕ) → given ≡ status.SwapPresent bytes → AllStay before.disk.faults disk.faults
     × IfSome (swap_now before.disk.moments) (λ swap. (bytes ≡ length swap) × (swap ≢ [])))
-    → IsEdit before (record before { left = left; script_faults = faults; disk = disk }) disk_stays sink_stays given
-ends-at-swap before left faults disk disk_stays sink_stays given quiet read only files rose comes present = record {
+    → IsEdit workers before (record before { left = left; script_faults = faults; disk = disk }) disk_stays sink_stays given
+ends-at-swap workers before left faults disk disk_stays sink_stays given quiet read only files rose comes present = record {
   ok = λ is. absurd (never status.Ok refl is);
   swap_lost = λ is. absurd (never status.SwapLost refl is);
   swap_lost_rose = λ is. absurd (never status.SwapLost refl is);
@@ -264,7 +265,7 @@ ends-at-swap before left faults disk disk_stays sink_stays given quiet read only
   refused_comes = λ fault spells empty refuses. one-of-file given (file_status fault) (ends empty);
   write_fault = λ is. absurd (never status.WriteFault refl is);
   write_fault_comes = λ more. absurd (omega (arith, more));
-  prefix = λ which. unwritten before.left (saved_now before.disk.moments) (before.got ≡ before.got) (λ script file. WritesPrefix script file before.disk disk before.got before.got) refl;
+  prefix = λ which. unwritten before.left (saved_now before.disk.moments) (before.got ≡ before.got) (λ script file. WritesPrefix workers script file before.disk disk before.got before.got) refl;
   complete = λ spells empty loadable. one-of-all given (ends empty);
   only = edit-of-swap given only;
 } where
@@ -300,7 +301,7 @@ file-loadable (status.TooLarge None) saved only refused loadable = absurd (loada
 file-loadable (status.TooLarge (Some size)) saved only refused loadable = absurd (loadable-refused saved (load.TooLarge size) loadable (refused (load.TooLarge size) (λ same. cc) refl))
 file-loadable _ saved only refused loadable = absurd (cc)
 
-pub ends-at-file : (before : Outside) (left : Option (List ℕ)) (faults : ℕ) (mid disk : Outer) (disk_stays sink_stays : Type 0) (given : Status)
+pub ends-at-file : (workers : ℕ) (before : Outside) (left : Option (List ℕ)) (faults : ℕ) (mid disk : Outer) (disk_stays sink_stays : Type 0) (given : Status)
     → sink_stays → WasRead before (record before { left = left; script_faults = faults; disk = disk })
     → IfSome (swap_now before.disk.moments) (λ swap. swap ≡ []) → AllStay before.disk.faults mid.faults
     → FilesStay before.disk mid → FilesStay mid disk → is_of_file given ≡ true
@@ -310,8 +311,8 @@ pub ends-at-file : (before : Outside) (left : Option (List ℕ)) (faults : ℕ) 
     × IfSome (saved_now mid.moments) (λ file. Refuses file fault))
     → ((fault : LoadFault) → IsSomeAnd (saved_now mid.moments) (λ file. Refuses file fault)
     → (given ≡ file_status fault) ⊎ (given ≡ status.DiskFault) ⊎ (given ≡ status.NoMemory))
-    → IsEdit before (record before { left = left; script_faults = faults; disk = disk }) disk_stays sink_stays given
-ends-at-file before left faults mid disk disk_stays sink_stays given quiet read empty calm first files only rose comes refused refused_comes = record {
+    → IsEdit workers before (record before { left = left; script_faults = faults; disk = disk }) disk_stays sink_stays given
+ends-at-file workers before left faults mid disk disk_stays sink_stays given quiet read empty calm first files only rose comes refused refused_comes = record {
   ok = λ is. absurd (never status.Ok refl is);
   swap_lost = λ is. absurd (never status.SwapLost refl is);
   swap_lost_rose = λ is. absurd (never status.SwapLost refl is);
@@ -331,7 +332,7 @@ ends-at-file before left faults mid disk disk_stays sink_stays given quiet read 
   refused_comes = λ fault spells none refuses. file-refused given (file_status fault) (refused_comes fault (earlier (λ file. Refuses file fault) (saved_now before.disk.moments) (saved_now mid.moments) on refuses));
   write_fault = λ is. absurd (never status.WriteFault refl is);
   write_fault_comes = λ more. absurd (omega (arith, more));
-  prefix = λ which. unwritten before.left (saved_now before.disk.moments) (before.got ≡ before.got) (λ script file. WritesPrefix script file before.disk disk before.got before.got) refl;
+  prefix = λ which. unwritten before.left (saved_now before.disk.moments) (before.got ≡ before.got) (λ script file. WritesPrefix workers script file before.disk disk before.got before.got) refl;
   complete = λ spells none loadable. file-loadable given (saved_now before.disk.moments) only
       (λ fault some is. told (λ file. Refuses file fault) (refused fault some is).1) loadable;
   only = edit-of-file given only;
@@ -355,22 +356,43 @@ ends-at-file before left faults mid disk disk_stays sink_stays given quiet read 
   rises (inl more) = inl (subst (λ n. Rose n (disk.faults SavedLen)) (calm SavedLen) more)
   rises (inr more) = inr (subst (λ n. Rose n (disk.faults SavedAt)) (calm SavedAt) more)
 
--- ---- a run that edits
+-- ---- a run that ends early
 
--- The run edits: its script spelled these commands, there was no swap file, and these bytes of the
--- saved file were loaded, beside which the writer of the swap file lies
-pub record Edits (before : Outside) (left : Option (List ℕ)) (faults : ℕ) (mid : Outer) (commands : List Command)
-    (bytes : List ℕ) (loaded : Loaded) (swap : SwapView) : Type 0 where
-  pub whole : IsAtEnd left
-  pub calm : faults ≡ before.script_faults
-  pub spelled : IfSome before.left (λ script. script_of script ≡ Ok commands)
-  pub stays : AllStay before.disk.faults mid.faults
-  pub files : FilesStay before.disk mid
-  pub empty : IfSome (swap_now before.disk.moments) (λ swap. swap ≡ [])
-  pub saved : IfSome (saved_now before.disk.moments) (λ file. bytes ≡ file)
-  pub loads : Loads bytes loaded
-  pub loadable : IsLoadable bytes
-  pub beside : swap ≡ record { base = digest_of bytes; state = Guarded; count = 0 }
+-- a run that ends before anything is asked of the sink ends so beside each sink
+pub ends-early : (before after : Inputs) (disk_stays sink_stays : Type 0) (given : Status) (workers : ℕ) (got : Option (List ℕ)) (sink_faults : ℕ)
+    → EndsEarly before after disk_stays given → sink_stays
+    → IsEdit workers (beside before got sink_faults) (beside after got sink_faults) disk_stays sink_stays given
+ends-early before after disk_stays sink_stays given workers got sink_faults early quiet = record {
+  ok = is.ok;
+  swap_lost = is.swap_lost;
+  swap_lost_rose = is.swap_lost_rose;
+  disk_fault = λ fault. let why = is.disk_fault fault in (why.0, failed why.1);
+  disk_fault_comes = is.disk_fault_comes;
+  replace_fault_comes = is.replace_fault_comes;
+  read_fault = λ fault. let why = is.read_fault fault in (why.0, why.1, quiet);
+  read_fault_comes = is.read_fault_comes;
+  bad_script = λ fault bad. let why = is.bad_script fault bad in (why.0, why.1, why.2, quiet);
+  bad_script_comes = is.bad_script_comes;
+  bad_script_named = is.bad_script_named;
+  swap_present = λ bytes there. let why = is.swap_present bytes there in (why.0, why.1, why.2, why.3, quiet);
+  swap_present_comes = is.swap_present_comes;
+  refused = λ fault some refused. let why = is.refused fault some refused in (why.0, why.1, why.2, why.3, why.4, quiet);
+  refused_comes = is.refused_comes;
+  write_fault = is.write_fault;
+  write_fault_comes = is.write_fault_comes;
+  prefix = is.prefix;
+  complete = is.complete;
+  only = is.only;
+} where
+  is : IsEdit workers (beside before got sink_faults) (beside after got sink_faults) disk_stays (Unit {0}) given
+  is = early workers got sink_faults
+
+  failed : FailedBefore (beside before got sink_faults) (beside after got sink_faults) (Unit {0}) ⊎ WasWritten workers (beside before got sink_faults) (beside after got sink_faults) given
+      → FailedBefore (beside before got sink_faults) (beside after got sink_faults) sink_stays ⊎ WasWritten workers (beside before got sink_faults) (beside after got sink_faults) given
+  failed (inl fails) = inl (record { rose = fails.rose; files = fails.files; sink = quiet })
+  failed (inr written) = inr written
+
+-- ---- a run that edits
 
 ok-is : (r : Result (List Command) ScriptFault) (commands : List Command) → r ≡ Ok commands → IsOk r
 ok-is r commands is = subst (λ (x : Result (List Command) ScriptFault). IsOk x) (sym is) refl
@@ -427,36 +449,37 @@ sink-comes : (fail : SinkFail) (faults later_faults : ℕ) → (fail ≢ sink.Fa
 sink-comes sink.Failed faults later_faults calm more = refl
 sink-comes sink.NoMemory faults later_faults calm more = absurd (let same = calm (λ is. cc) in omega (arith, same, more))
 
-module _ (before : Outside) (left : Option (List ℕ)) (faults : ℕ) (mid : Outer) (commands : List Command) (bytes : List ℕ)
-    (loaded : Loaded) (swap : SwapView) (edits : Edits before left faults mid commands bytes loaded swap) where
+module _ (workers : ℕ) (before : Outside) (left : Option (List ℕ)) (faults : ℕ) (mid : Outer) (commands : List Command) (loaded : Loaded)
+    (swap : SwapView) (begun : IsBegun (inputs before.left before.script_faults before.disk.moments before.disk.faults)
+    (inputs left faults mid.moments mid.faults) commands loaded swap) where
   spells : IfSome before.left (λ script. IsOk (script_of script))
-  spells = spells-from before.left commands edits.spelled
+  spells = spells-from before.left commands begun.spelled
 
   was-loadable : IfSome (saved_now before.disk.moments) IsLoadable
-  was-loadable = of-file (saved_now before.disk.moments) IsLoadable bytes edits.saved edits.loadable
+  was-loadable = of-file (saved_now before.disk.moments) IsLoadable begun.bytes begun.saved begun.loadable
 
   reads-from : (disk : Outer) → ReadsStay mid.faults disk.faults → ReadsStay before.disk.faults disk.faults
   reads-from disk reads = record {
-    saved_len = reads.saved_len ∙ edits.stays SavedLen;
-    saved_at = reads.saved_at ∙ edits.stays SavedAt;
-    swap_len = reads.swap_len ∙ edits.stays SwapLen;
-    swap_at = reads.swap_at ∙ edits.stays SwapAt;
+    saved_len = reads.saved_len ∙ begun.stays SavedLen;
+    saved_at = reads.saved_at ∙ begun.stays SavedAt;
+    swap_len = reads.swap_len ∙ begun.stays SwapLen;
+    swap_at = reads.swap_at ∙ begun.stays SwapAt;
   }
 
   was-loaded : (disk : Outer) → ReadsStay mid.faults disk.faults → WasLoaded before.disk disk
-  was-loaded disk reads = record { reads = reads-from disk reads; empty = edits.empty; loads = was-loadable }
+  was-loaded disk reads = record { reads = reads-from disk reads; empty = begun.empty; loads = was-loadable }
 
   -- what is printed for a script and a file that are told
   outputs : (script file : List ℕ) (ending : Status) (disk : Outer) (output : List ℕ)
-      → (Begins file loaded swap mid.moments → Prints commands file loaded ending mid disk output)
-      → before.left ≡ Some script → saved_now before.disk.moments ≡ Some file → Outputs script file ending before.disk disk output
+      → (Begins file loaded swap mid.moments → Prints workers commands file loaded ending mid disk output)
+      → before.left ≡ Some script → saved_now before.disk.moments ≡ Some file → Outputs workers script file ending before.disk disk output
   outputs script file ending disk output prints script_is file_is = record {
     commands = commands;
-    spelled = if_is before.left (λ script. script_of script ≡ Ok commands) script edits.spelled script_is;
+    spelled = if_is before.left (λ script. script_of script ≡ Ok commands) script begun.spelled script_is;
     loaded = loaded;
-    loads = subst (λ (f : List ℕ). Loads f loaded) (if_is (saved_now before.disk.moments) (λ f. bytes ≡ f) file edits.saved file_is) edits.loads;
-    prints = Prints-from commands file loaded ending before.disk mid disk output edits.stays
-        (prints (begins before.disk.moments mid.moments file bytes loaded swap edits.files edits.empty edits.saved edits.loads edits.loadable edits.beside file_is));
+    loads = subst (λ (f : List ℕ). Loads f loaded) (if_is (saved_now before.disk.moments) (λ f. begun.bytes ≡ f) file begun.saved file_is) begun.loads;
+    prints = Prints-from workers commands file loaded ending before.disk mid disk output begun.stays
+        (prints (begins before.disk.moments mid.moments file begun.bytes loaded swap begun.files begun.empty begun.saved begun.loads begun.loadable begun.beside file_is));
   }
 
   -- .. so that a fact of each script and each file that are told is one of those that are
@@ -471,28 +494,28 @@ module _ (before : Outside) (left : Option (List ℕ)) (faults : ℕ) (mid : Out
 
   ends-late : (disk : Outer) (got : Option (List ℕ)) (sink_faults : ℕ) (disk_stays sink_stays : Type 0) (given : Status)
       → is_late given ≡ true → ReadsStay mid.faults disk.faults
-      → ((given ≡ status.Ok) ⊎ (given ≡ status.SwapLost) ⊎ (given ≡ status.DiskFault) → WasWritten before (at-end left faults disk got sink_faults) given)
+      → ((given ≡ status.Ok) ⊎ (given ≡ status.SwapLost) ⊎ (given ≡ status.DiskFault) → WasWritten workers before (at-end left faults disk got sink_faults) given)
       → (given ≡ status.SwapLost → Rose (mid.faults Append) (disk.faults Append) ⊎ Rose (mid.faults Sync) (disk.faults Sync) ⊎ Rose (mid.faults Reset) (disk.faults Reset))
       → (mid.faults Replace < disk.faults Replace → Contains (status.DiskFault ∷ status.WriteFault ∷ status.NoMemory ∷ []) given)
       → (given ≡ status.WriteFault → Rose before.sink_faults sink_faults)
       → (before.sink_faults < sink_faults → given ≡ status.WriteFault)
       → ((given ≡ status.WriteFault) ⊎ (given ≡ status.NoMemory) → IfSome before.left (λ script. IfSome (saved_now before.disk.moments) (λ file.
-      (got ≡ before.got) ⊎ WritesPrefix script file before.disk disk before.got got)))
-      → IsEdit before (at-end left faults disk got sink_faults) disk_stays sink_stays given
+      (got ≡ before.got) ⊎ WritesPrefix workers script file before.disk disk before.got got)))
+      → IsEdit workers before (at-end left faults disk got sink_faults) disk_stays sink_stays given
   ends-late disk got sink_faults disk_stays sink_stays given only reads written rose replaced failed comes prefix = record {
     ok = λ is. written (inl is);
     swap_lost = λ is. written (inr (inl is));
     swap_lost_rose = λ is. rises (rose is);
     disk_fault = λ is. (read, inr (written (inr (inr is))));
     disk_fault_comes = λ call one more. absurd (no-read call one more);
-    replace_fault_comes = λ more. replaced (let same = edits.stays Replace in omega (arith, same, more));
+    replace_fault_comes = λ more. replaced (let same = begun.stays Replace in omega (arith, same, more));
     read_fault = λ is. absurd (never status.ReadFault refl is);
-    read_fault_comes = λ more. absurd (let calm = edits.calm in omega (arith, calm, more));
+    read_fault_comes = λ more. absurd (let calm = begun.calm in omega (arith, calm, more));
     bad_script = λ fault is. absurd (never (status.BadScript fault) refl is);
     bad_script_comes = λ fault bad. absurd (bad-spells before.left fault spells bad);
     bad_script_named = λ is. never (status.BadScript script_fault.NoMemory) refl is;
     swap_present = λ bytes is. absurd (never (status.SwapPresent bytes) refl is);
-    swap_present_comes = λ swap spells there some. absurd (swap_both (swap_now before.disk.moments) swap edits.empty there some);
+    swap_present_comes = λ swap spells there some. absurd (swap_both (swap_now before.disk.moments) swap begun.empty there some);
     refused = λ fault some is. absurd (never (file_status fault) (file-not is_late refl (λ at. refl) (λ size. refl) fault some) is);
     refused_comes = λ fault spells none refuses. absurd (refused-loadable (saved_now before.disk.moments) fault was-loadable refuses);
     write_fault = λ is. (read, was-loaded disk reads, failed is);
@@ -505,7 +528,7 @@ module _ (before : Outside) (left : Option (List ℕ)) (faults : ℕ) (mid : Out
     never other is_not is = not-of is_late given other only is_not is
 
     read : WasRead before (at-end left faults disk got sink_faults)
-    read = record { whole = edits.whole; calm = edits.calm; spells = spells }
+    read = record { whole = begun.whole; calm = begun.calm; spells = spells }
 
     stays : ReadsStay before.disk.faults disk.faults
     stays = reads-from disk reads
@@ -522,7 +545,7 @@ module _ (before : Outside) (left : Option (List ℕ)) (faults : ℕ) (mid : Out
         omega (arith, same, more)
 
     at-first : (call : DiskCall) → Rose (mid.faults call) (disk.faults call) → Rose (before.disk.faults call) (disk.faults call)
-    at-first call more = subst (λ n. Rose n (disk.faults call)) (edits.stays call) more
+    at-first call more = subst (λ n. Rose n (disk.faults call)) (begun.stays call) more
 
     rises : Rose (mid.faults Append) (disk.faults Append) ⊎ Rose (mid.faults Sync) (disk.faults Sync) ⊎ Rose (mid.faults Reset) (disk.faults Reset)
         → Rose (before.disk.faults Append) (disk.faults Append) ⊎ Rose (before.disk.faults Sync) (disk.faults Sync) ⊎ Rose (before.disk.faults Reset) (disk.faults Reset)
@@ -532,7 +555,7 @@ module _ (before : Outside) (left : Option (List ℕ)) (faults : ℕ) (mid : Out
 
   -- memory ran out before anything was written
   pub ends-in-edit : (disk : Outer) (disk_stays sink_stays : Type 0) → ReadsStay mid.faults disk.faults
-      → IsEdit before (at-end left faults disk before.got before.sink_faults) disk_stays sink_stays status.NoMemory
+      → IsEdit workers before (at-end left faults disk before.got before.sink_faults) disk_stays sink_stays status.NoMemory
   ends-in-edit disk disk_stays sink_stays reads =
       ends-late disk before.got before.sink_faults disk_stays sink_stays status.NoMemory refl reads
       (λ which. absurd (neither which))
@@ -540,7 +563,7 @@ module _ (before : Outside) (left : Option (List ℕ)) (faults : ℕ) (mid : Out
       (λ more. (2, omega arith, refl))
       (λ is. absurd (cc is))
       (λ more. absurd (omega (arith, more)))
-      (λ which. unwritten before.left (saved_now before.disk.moments) (before.got ≡ before.got) (λ script file. WritesPrefix script file before.disk disk before.got before.got) refl)
+      (λ which. unwritten before.left (saved_now before.disk.moments) (before.got ≡ before.got) (λ script file. WritesPrefix workers script file before.disk disk before.got before.got) refl)
     where
       neither : (status.NoMemory ≡ status.Ok) ⊎ (status.NoMemory ≡ status.SwapLost) ⊎ (status.NoMemory ≡ status.DiskFault) → ⊥
       neither (inl is) = cc
@@ -549,16 +572,16 @@ module _ (before : Outside) (left : Option (List ℕ)) (faults : ℕ) (mid : Out
 
   -- all was written
   pub ends-written : (disk : Outer) (got : Option (List ℕ)) (sink_faults : ℕ) (disk_stays sink_stays : Type 0) (ending : Status) (output : List ℕ)
-      → ((file : List ℕ) → Begins file loaded swap mid.moments → Prints commands file loaded ending mid disk output)
+      → ((file : List ℕ) → Begins file loaded swap mid.moments → Prints workers commands file loaded ending mid disk output)
       → Ended ending mid.faults disk.faults → ReadsStay mid.faults disk.faults → Appends before.got got output → sink_faults ≡ before.sink_faults
-      → IsEdit before (at-end left faults disk got sink_faults) disk_stays sink_stays ending
+      → IsEdit workers before (at-end left faults disk got sink_faults) disk_stays sink_stays ending
   ends-written disk got sink_faults disk_stays sink_stays ending output prints ended reads gains calm =
       ends-late disk got sink_faults disk_stays sink_stays ending (late-from ending mid.faults disk.faults ended) reads
       (λ which. (
-        record { whole = edits.whole; calm = edits.calm; spells = spells },
+        record { whole = begun.whole; calm = begun.calm; spells = spells },
         was-loaded disk reads,
         calm,
-        for-told (λ script file. Writes script file ending before.disk disk before.got got)
+        for-told (λ script file. Writes workers script file ending before.disk disk before.got got)
             (λ script file script_is file_is. record { output = output; outputs = outputs script file ending disk output (prints file) script_is file_is; gains = gains }),
       ))
       (λ is. lost ending is ended)
@@ -574,10 +597,10 @@ module _ (before : Outside) (left : Option (List ℕ)) (faults : ℕ) (mid : Out
   -- the write failed
   pub ends-unwritten : (disk : Outer) (got : Option (List ℕ)) (sink_faults : ℕ) (disk_stays sink_stays : Type 0) (given ending : Status) (output : List ℕ) (fail : SinkFail)
       → given ≡ sink_status fail
-      → ((file : List ℕ) → Begins file loaded swap mid.moments → Prints commands file loaded ending mid disk output)
+      → ((file : List ℕ) → Begins file loaded swap mid.moments → Prints workers commands file loaded ending mid disk output)
       → ReadsStay mid.faults disk.faults → AppendsPrefix before.got got output
       → (fail ≡ sink.Failed → Rose before.sink_faults sink_faults) → (fail ≢ sink.Failed → sink_faults ≡ before.sink_faults)
-      → IsEdit before (at-end left faults disk got sink_faults) disk_stays sink_stays given
+      → IsEdit workers before (at-end left faults disk got sink_faults) disk_stays sink_stays given
   ends-unwritten disk got sink_faults disk_stays sink_stays given ending output fail is prints reads gains rose calm =
       ends-late disk got sink_faults disk_stays sink_stays given (ap is_late is ∙ sink-late fail) reads
       (λ which. absurd (neither which))
@@ -585,7 +608,7 @@ module _ (before : Outside) (left : Option (List ℕ)) (faults : ℕ) (mid : Out
       (λ more. subst (Contains (status.DiskFault ∷ status.WriteFault ∷ status.NoMemory ∷ [])) (sym is) (sink-replaced fail))
       (λ failed. rose (sink-failed fail (sym is ∙ failed)))
       (λ more. is ∙ sink-comes fail before.sink_faults sink_faults calm more)
-      (λ which. for-told (λ script file. (got ≡ before.got) ⊎ WritesPrefix script file before.disk disk before.got got)
+      (λ which. for-told (λ script file. (got ≡ before.got) ⊎ WritesPrefix workers script file before.disk disk before.got got)
       (λ script file script_is file_is. inr (record {
         output = output;
         ending = ending;
@@ -600,3 +623,14 @@ module _ (before : Outside) (left : Option (List ℕ)) (faults : ℕ) (mid : Out
       neither (inl same) = never status.Ok refl same
       neither (inr (inl same)) = never status.SwapLost refl same
       neither (inr (inr same)) = never status.DiskFault refl same
+
+  -- the output was written, or only its first bytes
+  pub ends-in-writing : (disk : Outer) (got : Option (List ℕ)) (sink_faults : ℕ) (disk_stays sink_stays : Type 0) (given ending : Status) (output : List ℕ)
+      → IsEdited workers commands loaded swap mid disk ending output → ReadsStay mid.faults disk.faults
+      → IsWritten output ending given before.got got before.sink_faults sink_faults
+      → IsEdit workers before (at-end left faults disk got sink_faults) disk_stays sink_stays given
+  ends-in-writing disk got sink_faults disk_stays sink_stays given ending output edited reads (inl whole) =
+      subst (λ (s : Status). IsEdit workers before (at-end left faults disk got sink_faults) disk_stays sink_stays s) (sym whole.0)
+      (ends-written disk got sink_faults disk_stays sink_stays ending output edited.prints edited.ended reads whole.1 whole.2)
+  ends-in-writing disk got sink_faults disk_stays sink_stays given ending output edited reads (inr cut) =
+      ends-unwritten disk got sink_faults disk_stays sink_stays given ending output cut.fail cut.is edited.prints reads cut.gains cut.rose cut.calm

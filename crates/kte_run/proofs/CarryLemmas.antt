@@ -1,37 +1,33 @@
 -- The whole run: what the editor asked for, and then the jobs, which tell of no call outside.
 use Rattle.std.proofs.Common.{◌≡◌, ◌∙◌, ℕ, Bool, true, false, List, [], ◌∷◌, ◌++◌, All, Option, Some, None, IfSome, if◌then◌else◌, nat_eq, inl, inr, refl, ap, sym, subst, append_assoc, append-nil, arith}
 use Rattle.std.specs.List.{AllByRecursion, cons_option}
-use Rattle.std.specs.Option.{option_to_list}
-use Rattle.std.proofs.lemmas.List.Elements.{All-head, All-tail, Contains-append_left}
+use Rattle.std.proofs.lemmas.List.Elements.{All-head, All-tail}
 use Rattle.kte_text.specs.declared.primitive.Primitive.{Primitive}
 use Rattle.kte_jobs.specs.declared.job.JobState.TheVariants.{Done}
 use Rattle.kte_causes.specs.Moments.{Moment, latest}
 use Rattle.kte_causes.specs.declared.causes.DiskCall.{DiskCall}
+use Rattle.kte_swap.specs.Swap.{SwapView}
 use Rattle.kte_command.specs.declared.command.Command.{Command}
 use Rattle.kte_core.specs.State.{State}
-use Rattle.kte_core.specs.React.{cut_at, react_by}
-use Rattle.kte_core.specs.Replay.{Session, Legal, after_event, beginning, came_of, present, replay}
+use Rattle.kte_core.specs.Replay.{Session, Legal, after_event, beginning, came_of, present, replay, IsLegal}
 use Rattle.kte_core.specs.declared.event.Event.{Event}
 use Rattle.kte_core.specs.declared.reply.Reply.{Reply}
 use Rattle.kte_core.specs.declared.reply.Reply.TheVariants as reply
 use Rattle.kte_core.specs.declared.request.Request.{Request}
 use Rattle.kte_core.specs.declared.request.Request.TheVariants.{Cmd, Close, Take, Deliver, GiveBack, Outcome}
-use Rattle.kte_core.proofs.JournalLemmas.{Legal-append}
-use Rattle.kte_core.proofs.TransactionLemmas.{quiet_unless}
+use Rattle.kte_core.proofs.JournalLemmas.{EachIn-append}
 use Rattle.kte_run.specs.declared.status.Status.{Status}
 use Rattle.kte_run.specs.declared.status.Status.TheVariants as status
-use Rattle.kte_run.specs.Schedule.{AllFit, Due, InTurn, IsDue, IsFree, Schedule, WentWell, append, append_of, asked_in, delivery, due_after, due_of, if_asked, lost_after, lost_by, nothing, outcome, outcome_of}
-use Rattle.kte_run.specs.Alone.{Asks, Drains, EachDue, due_left}
-use Rattle.kte_run.specs.Outcomes.{Counted, HasFailedSave, Holds, IsEnding, Keeps, append_charge, call_charge, failed_appends, failed_calls, file_after, file_by, unsaved_after, unsaved_by}
-use Rattle.kte_run.proofs.DueLemmas.{AllFit-append, InTurn-after}
-use Rattle.kte_run.proofs.HistoryLemmas.{asked_in-append, present-more}
+use Rattle.kte_desk.specs.Schedule.{AllFit, Due, Fits, InTurn, IsDue, IsFree, Schedule, WentWell, append, append_of, asked_in, delivery, due_after, due_of, if_asked, lost_after, lost_by, nothing, outcome, outcome_of}
+use Rattle.kte_desk.specs.Serving.{Drains}
+use Rattle.kte_run.specs.Alone.{Asks, EachDue, TellsDisk, due_left}
+use Rattle.kte_run.specs.Run.{Outer}
+use Rattle.kte_run.specs.Outcomes.{Counted, Holds, IsEnding, Keeps, failed_appends, failed_calls, file_after, unsaved_after}
+use Rattle.kte_run.proofs.ApartLemmas.{IsApart, Same, Same-apart, TellsNothing}
+use Rattle.kte_run.proofs.DueLemmas.{InTurn-after}
+use Rattle.kte_desk.proofs.HistoryLemmas.{asked_in-append, present-more}
 
--- ---- events that tell of no call outside
-
-abbrev IsApart : Request → Type 0
-IsApart Take = Unit {0}
-IsApart (Deliver job findings) = Unit {0}
-IsApart _ = ⊥
+-- ---- the jobs tell of no call outside
 
 -- no outcome is called for
 abbrev IsCalm : Due → Type 0
@@ -74,7 +70,7 @@ calm-outcome (Cmd command) finished apart = absurd apart
 calm-outcome Close finished apart = absurd apart
 calm-outcome Take finished apart = calm-append finished
 calm-outcome (Deliver job findings) finished apart = calm-append finished
-calm-outcome (GiveBack job) finished apart = absurd apart
+calm-outcome (GiveBack job) finished apart = calm-append finished
 calm-outcome (Outcome call ok) finished apart = absurd apart
 
 calm-due : (request : Request) (finished : Option (List Primitive)) (answer : Reply) → IsApart request → IsCalm (due_of request finished answer)
@@ -91,117 +87,19 @@ none-asked None rest none = (refl, none)
 none-asked (Some request) rest none = absurd (cc)
 
 apart-all : (state : State) (lost : Bool) (due : Due) (events : List Event) → IsCalm due → InTurn state lost due events → AllFit 0 state events
-    → asked_in events ≡ [] → All (λ event. WentWell event.request) events → AllByRecursion (λ event. IsApart event.request) events
+    → asked_in events ≡ [] → All (λ event. WentWell event.request) events → AllByRecursion TellsNothing events
 apart-all state lost due [] calm turn fit none well = tt
 apart-all state lost due (event ∷ events) calm turn fit none well =
     let parts = none-asked (if_asked event.request) (asked_in events) none in
     let seat = fit.0.seat in
     let P : Event → Type 0 = λ event. WentWell event.request in
     let apart = apart-due due lost event.request calm (turn.0 (omega arith)) parts.0 (All-head P event events well) in (
-      apart,
+      (apart, fit.0.whole),
       apart-all (after_event state event) (lost_by lost event.request) (due_after state due event) events
           (calm-by (nat_eq event.seat 0) (due_of event.request (came_of state event).finished event.reply) due
           (calm-due event.request (came_of state event).finished event.reply apart) calm)
           turn.1 fit.1 parts.1 (All-tail P event events well),
     )
-
--- ---- they change nothing that is told
-
-append-apart : (request : Request) → IsApart request → append_charge request ≡ 0
-append-apart (Cmd command) apart = absurd apart
-append-apart Close apart = absurd apart
-append-apart Take apart = refl
-append-apart (Deliver job findings) apart = refl
-append-apart (GiveBack job) apart = absurd apart
-append-apart (Outcome call ok) apart = absurd apart
-
-call-apart : (lost : Bool) (request : Request) → IsApart request → (call_charge lost request ≡ 0) × (lost_by lost request ≡ lost)
-call-apart lost (Cmd command) apart = absurd apart
-call-apart lost Close apart = absurd apart
-call-apart lost Take apart = (refl, refl)
-call-apart lost (Deliver job findings) apart = (refl, refl)
-call-apart lost (GiveBack job) apart = absurd apart
-call-apart lost (Outcome call ok) apart = absurd apart
-
-file-apart : (state : State) (request : Request) (file : List ℕ) → IsApart request → file_by state request file ≡ file
-file-apart state (Cmd command) file apart = absurd apart
-file-apart state Close file apart = absurd apart
-file-apart state Take file apart = refl
-file-apart state (Deliver job findings) file apart = refl
-file-apart state (GiveBack job) file apart = absurd apart
-file-apart state (Outcome call ok) file apart = absurd apart
-
-none-made : (state : State) (seat : ℕ) (request : Request) (at : Option ℕ) → at ≡ None → IsApart request → (react_by state seat request at).finished ≡ None
-none-made state seat (Cmd command) at whole apart = absurd apart
-none-made state seat Close at whole apart = absurd apart
-none-made state seat Take at whole apart =
-    ap (λ (o : Option ℕ). (react_by state seat Take o).finished) whole ∙ (quiet_unless state seat Take (λ is. is)).finished
-none-made state seat (Deliver job findings) at whole apart =
-    ap (λ (o : Option ℕ). (react_by state seat (Deliver job findings) o).finished) whole
-    ∙ (quiet_unless state seat (Deliver job findings) (λ is. is)).finished
-none-made state seat (GiveBack job) at whole apart = absurd apart
-none-made state seat (Outcome call ok) at whole apart = absurd apart
-
-more-apart : (state : State) (event : Event) (request : Request) (ts : List (List Primitive)) → IsApart request
-    → unsaved_by state event request ts ≡ ts ++ option_to_list (came_of state event).finished
-more-apart state event (Cmd command) ts apart = absurd apart
-more-apart state event Close ts apart = absurd apart
-more-apart state event Take ts apart = refl
-more-apart state event (Deliver job findings) ts apart = refl
-more-apart state event (GiveBack job) ts apart = absurd apart
-more-apart state event (Outcome call ok) ts apart = absurd apart
-
-unsaved-apart : (state : State) (event : Event) (ts : List (List Primitive)) → cut_at event.reply ≡ None → IsApart event.request
-    → unsaved_by state event event.request ts ≡ ts
-unsaved-apart state event ts whole apart =
-    more-apart state event event.request ts apart
-    ∙ ap (λ (finished : Option (List Primitive)). ts ++ option_to_list finished)
-    (none-made state event.seat event.request (cut_at event.reply) whole apart)
-    ∙ append-nil ts
-
--- What is told after some events is told after others
-pub record Same (first : State) (events later : List Event) : Type 0 where
-  pub appends : failed_appends later ≡ failed_appends events
-  pub calls : failed_calls false later ≡ failed_calls false events
-  pub lost : lost_after false later ≡ lost_after false events
-  pub file : (bytes : List ℕ) → file_after first later bytes ≡ file_after first events bytes
-  pub unsaved : unsaved_after first later [] ≡ unsaved_after first events []
-  pub save : HasFailedSave events → HasFailedSave later
-
-appends-more : (events more : List Event) → AllByRecursion (λ event. IsApart event.request) more
-    → failed_appends (events ++ more) ≡ failed_appends events
-appends-more [] [] apart = refl
-appends-more [] (event ∷ more) apart = omega (arith, append-apart event.request apart.0, appends-more [] more apart.1)
-appends-more (event ∷ events) more apart = omega (arith, appends-more events more apart)
-
-calls-more : (lost : Bool) (events more : List Event) → AllByRecursion (λ event. IsApart event.request) more
-    → failed_calls lost (events ++ more) ≡ failed_calls lost events
-calls-more lost [] [] apart = refl
-calls-more lost [] (event ∷ more) apart =
-    omega (arith, (call-apart lost event.request apart.0).0, calls-more (lost_by lost event.request) [] more apart.1)
-calls-more lost (event ∷ events) more apart = omega (arith, calls-more (lost_by lost event.request) events more apart)
-
-lost-more : (lost : Bool) (events more : List Event) → AllByRecursion (λ event. IsApart event.request) more
-    → lost_after lost (events ++ more) ≡ lost_after lost events
-lost-more lost [] [] apart = refl
-lost-more lost [] (event ∷ more) apart = lost-more (lost_by lost event.request) [] more apart.1 ∙ (call-apart lost event.request apart.0).1
-lost-more lost (event ∷ events) more apart = lost-more (lost_by lost event.request) events more apart
-
-file-more : (state : State) (events more : List Event) (file : List ℕ) → AllByRecursion (λ event. IsApart event.request) more
-    → file_after state (events ++ more) file ≡ file_after state events file
-file-more state [] [] file apart = refl
-file-more state [] (event ∷ more) file apart =
-    file-more (after_event state event) [] more (file_by state event.request file) apart.1 ∙ file-apart state event.request file apart.0
-file-more state (event ∷ events) more file apart = file-more (after_event state event) events more (file_by state event.request file) apart
-
-unsaved-more : (state : State) (events more : List Event) (ts : List (List Primitive)) → AllFit 0 (replay state events) more
-    → AllByRecursion (λ event. IsApart event.request) more → unsaved_after state (events ++ more) ts ≡ unsaved_after state events ts
-unsaved-more state [] [] ts fit apart = refl
-unsaved-more state [] (event ∷ more) ts fit apart =
-    unsaved-more (after_event state event) [] more (unsaved_by state event event.request ts) fit.1 apart.1
-    ∙ unsaved-apart state event ts fit.0.whole apart.0
-unsaved-more state (event ∷ events) more ts fit apart =
-    unsaved-more (after_event state event) events more (unsaved_by state event event.request ts) fit apart
 
 -- ---- the whole run
 
@@ -229,9 +127,9 @@ scheduled commands before between after fresh asks drains =
     (subst (λ (state : State). InTurn state (lost_after false asks.added) nothing added) more
     (drains.serves.alone.in_turn (lost_after false asks.added))) in
     let whole : Schedule commands 0 first all = record {
-      legal = Legal-append first asks.added added (subst (λ (state : State). Legal state asks.added) start asks.legal)
+      legal = EachIn-append IsLegal first asks.added added (subst (λ (state : State). Legal state asks.added) start asks.legal)
           (subst (λ (state : State). Legal state added) more drains.serves.alone.legal);
-      fit = AllFit-append 0 first asks.added added (subst (λ (state : State). AllFit 0 state asks.added) start asks.fit)
+      fit = EachIn-append (Fits 0) first asks.added added (subst (λ (state : State). AllFit 0 state asks.added) start asks.fit)
           (subst (λ (state : State). AllFit 0 state added) more drains.serves.alone.fit);
       ordered = asked_in-append asks.added added
           ∙ ap (λ (requests : List Request). asked_in asks.added ++ requests) drains.serves.ordered
@@ -258,36 +156,37 @@ same commands before between after fresh asks drains =
     let start : present before ≡ first = ap (replay first) fresh in
     let asked : between.events ≡ asks.added =
     ap (λ (session : Session). session.events) asks.events ∙ ap (λ (events : List Event). events ++ asks.added) fresh in
-    let state : present between ≡ replay first between.events =
-    present-more before between asks.added asks.events ∙ ap (λ (s : State). replay s asks.added) start ∙ ap (replay first) (sym asked) in
     let apart = apart-all (present between) false nothing more tt (alone.in_turn false) alone.fit drains.serves.ordered alone.went_well in
     let is : between.events ++ more ≡ after.events = sym (ap (λ (session : Session). session.events) drains.serves.events) in
-    subst (Same first between.events) is (record {
-      appends = appends-more between.events more apart;
-      calls = calls-more false between.events more apart;
-      lost = lost-more false between.events more apart;
-      file = λ bytes. file-more first between.events more bytes apart;
-      unsaved = unsaved-more first between.events more [] (subst (λ (s : State). AllFit 0 s more) state alone.fit) apart;
-      save = λ failed. (failed.0, Contains-append_left between.events more failed.0 failed.1, failed.2);
-    })
+    subst (Same first between.events) is (Same-apart first between.events more apart)
 
-pub counted-same : (first : State) (events later : List Event) (before after : DiskCall → ℕ) → Same first events later
+counted-same : (first : State) (events later : List Event) (before after : DiskCall → ℕ) → Same first events later
     → Counted (failed_appends events) (failed_calls false events) before after
     → Counted (failed_appends later) (failed_calls false later) before after
 counted-same first events later before after told counted =
     subst (λ (n : ℕ). Counted n (failed_calls false later) before after) (sym told.appends)
     (subst (λ (n : ℕ). Counted (failed_appends events) n before after) (sym told.calls) counted)
 
-pub ending-same : (first : State) (events later : List Event) (given : Status) (before after : DiskCall → ℕ) → Same first events later
+ending-same : (first : State) (events later : List Event) (given : Status) (before after : DiskCall → ℕ) → Same first events later
     → IsEnding given events before after → IsEnding given later before after
 ending-same first events later status.Ok before after told ending = (told.lost ∙ ending.0, ending.1)
 ending-same first events later status.SwapLost before after told ending = (told.lost ∙ ending.0, ending.1)
 ending-same first events later status.DiskFault before after told ending = (ending.0, told.save ending.1)
 ending-same first events later _ before after told ending = absurd ending
 
-pub keeps-same : (file : List ℕ) (first : State) (events later : List Event) (moments : Option (List Moment)) → Same first events later
+keeps-same : (file : List ℕ) (first : State) (events later : List Event) (moments : Option (List Moment)) → Same first events later
     → Keeps file first events moments → Keeps file first later moments
 keeps-same file first events later moments told keeps = λ kept.
     subst (λ (bytes : List ℕ). IfSome moments (λ ms. Holds bytes (unsaved_after first later []) (latest ms))) (sym (told.file file))
     (subst (λ (ts : List (List Primitive)). IfSome moments (λ ms. Holds (file_after first events file) ts (latest ms))) (sym told.unsaved)
     (keeps (sym told.lost ∙ kept)))
+
+-- what is told of the disk is so too
+pub tells-same : (ending : Status) (first : State) (events later : List Event) (swap : SwapView) (before after : Outer) → Same first events later
+    → TellsDisk ending first events swap before after → TellsDisk ending first later swap before after
+tells-same ending first events later swap before after told tells = record {
+  counted = counted-same first events later before.faults after.faults told tells.counted;
+  ends = ending-same first events later ending before.faults after.faults told tells.ends;
+  ended = tells.ended;
+  keeps = λ file begins. keeps-same file first events later after.moments told (tells.keeps file begins);
+}

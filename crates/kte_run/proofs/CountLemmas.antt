@@ -19,12 +19,16 @@ use Rattle.kte_core.specs.declared.request.Request.TheVariants.{Close, Cmd, Outc
 use Rattle.kte_run.specs.declared.editor.Told.{Told}
 use Rattle.kte_run.specs.declared.status.Status.{Status}
 use Rattle.kte_run.specs.declared.status.Status.TheVariants as status
-use Rattle.kte_run.specs.Schedule.{lost_after, lost_by}
-use Rattle.kte_run.specs.Editor.{Part, is_lost, lost_with, own, telling}
+use Rattle.kte_desk.specs.Schedule.{lost_after, lost_by}
+use Rattle.kte_desk.specs.Serving.{own}
+use Rattle.kte_run.specs.Editor.{Part, is_lost, lost_with, telling}
 use Rattle.kte_run.specs.Calls.{CountsCall, CountsTold, Failed, SaveFailed}
 use Rattle.kte_run.specs.Outcomes.{AtLast, Counted, Ended, HasFailedSave, IsEnding, ReadsStay, RoseBy, append_charge, call_charge, calls_of, failed_appends, failed_calls}
+use Rattle.kte_core.specs.State.{State}
+use Rattle.kte_run.proofs.ApartLemmas.{Same}
 use Rattle.kte_run.proofs.DueLemmas.{lost_after-last}
-use Rattle.kte_run.proofs.AskLemmas.{KeepsPart, NextBy, part_of}
+use Rattle.kte_run.proofs.AskLemmas.{KeepsPart, NextBy}
+use Rattle.kte_run.specs.Editor.{part_of}
 
 -- ---- the failures that are told
 
@@ -385,6 +389,11 @@ some-told None lost remembered now before between after sooner later counts was 
 some-told (Some told) lost remembered now before between after sooner later counts was is =
     some-call told.call told.ok lost remembered now before between after sooner later counts was is
 
+replaced-by : (remembered : Bool) (told more : Type 0) (before now : DiskCall → ℕ) → (told → more) → Replaced remembered told before now
+    → Replaced remembered more before now
+replaced-by true told more before now by replaced = (replaced.0, by replaced.1)
+replaced-by false told more before now by replaced = replaced
+
 -- ---- what the counts say, beside the events so far and the part
 
 -- The failures so far are those that are told, and the one that is owed
@@ -411,6 +420,21 @@ Counting-none events commands swap part faults fresh is guarded =
       rises = record { append = omega arith; sync = omega arith; replace = omega arith; reset = omega arith };
       lost = λ lost. let never = sym (ap is_lost guarded) ∙ lost in absurd (cc);
     }))
+
+-- .. after others that tell the same
+pub Counting-same : (first : State) (events later : List Event) (part : Part) (before now : DiskCall → ℕ) → Same first events later
+    → Counting events part before now → Counting later part before now
+Counting-same first events later part before now same counting =
+    record {
+      counted = rw (same.appends, same.calls, same.lost) counting.counted;
+      replaced = replaced-by part.replace_failed (HasFailedSave events ⊎ IsFailedSave part.owed) (HasFailedSave later ⊎ IsFailedSave part.owed) before now
+          by counting.replaced;
+      rises = counting.rises;
+      lost = counting.lost;
+    } where
+      by : HasFailedSave events ⊎ IsFailedSave part.owed → HasFailedSave later ⊎ IsFailedSave part.owed
+      by (inl failed) = inl (same.save failed)
+      by (inr owed) = inr owed
 
 -- what is owed is told by the next request
 append-next : (owed : Option Told) (request : Request) → NextBy owed request → owed_append owed ≡ append_charge request
@@ -439,11 +463,6 @@ record Made (events : List Event) (part : Part) (swap_lost : Bool) (before now :
   rises : Rises before now
   lost_is : lost_after false events ≡ swap_lost
   lost : swap_lost ≡ true → SomeRose part.replace_failed before now
-
-replaced-by : (remembered : Bool) (told more : Type 0) (before now : DiskCall → ℕ) → (told → more) → Replaced remembered told before now
-    → Replaced remembered more before now
-replaced-by true told more before now by replaced = (replaced.0, by replaced.1)
-replaced-by false told more before now by replaced = replaced
 
 lost-next : (lost : Bool) (owed : Option Told) (request : Request) → NextBy owed request → lost_by lost request ≡ lost_with lost owed
 lost-next lost None (Cmd command) next = refl
@@ -564,7 +583,8 @@ Counting-ended events part given before now counting ends =
     ended-by part.replace_failed (is_lost part.swap.state) given (HasFailedSave events ⊎ IsFailedSave part.owed) before now ends.failed ends.lost
     ends.ok counting.replaced counting.lost
 
--- no read failed, where nothing was told after the last call
-pub reads-more : (before now next : DiskCall → ℕ) (lost remembered later : Bool) → ReadsStay before now
-    → CountsTold None lost remembered later now next → ReadsStay before next
-reads-more before now next lost remembered later reads counts = reads-then before now next reads (reads_all now next counts.1)
+-- no read failed by one call more
+pub reads-more : (before now next : DiskCall → ℕ) (owed : Option Told) (lost remembered later : Bool) → ReadsStay before now
+    → CountsTold owed lost remembered later now next → ReadsStay before next
+reads-more before now next owed lost remembered later reads counts =
+    reads-then before now next reads (charged owed lost remembered later now next counts).reads

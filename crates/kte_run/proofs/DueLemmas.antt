@@ -1,9 +1,9 @@
 -- What the editor's last event calls for, after some events and one more.
-use Rattle.std.proofs.Common.{◌≡◌, ℕ, Bool, List, [], ◌∷◌, ◌++◌, refl}
+use Rattle.std.proofs.Common.{◌≡◌, Bool, List, [], ◌∷◌, ◌++◌, refl}
 use Rattle.kte_core.specs.State.{State}
 use Rattle.kte_core.specs.Replay.{after_event, replay}
 use Rattle.kte_core.specs.declared.event.Event.{Event}
-use Rattle.kte_run.specs.Schedule.{Due, AllFit, Fits, InTurn, IsDue, due_after, lost_after, lost_by}
+use Rattle.kte_desk.specs.Schedule.{Due, InTurn, IsDue, due_after, lost_after, lost_by}
 use Rattle.kte_run.specs.Alone.{EachDue, due_left}
 
 pub due_left-last : (state : State) (due : Due) (events : List Event) (event : Event)
@@ -30,14 +30,3 @@ pub InTurn-after : (state : State) (lost : Bool) (due : Due) (events more : List
 InTurn-after state lost due [] more each turn = turn
 InTurn-after state lost due (first ∷ events) more each turn =
     (each.0, InTurn-after (after_event state first) (lost_by lost first.request) (due_after state due first) events more each.1 turn)
-
--- memory did not run out at an event more
-pub AllFit-last : (workers : ℕ) (state : State) (events : List Event) (event : Event) → AllFit workers state events
-    → Fits workers (replay state events) event → AllFit workers state (events ++ event ∷ [])
-AllFit-last workers state [] event fit is = (is, tt)
-AllFit-last workers state (first ∷ events) event fit is = (fit.0, AllFit-last workers (after_event state first) events event fit.1 is)
-
-pub AllFit-append : (workers : ℕ) (state : State) (events more : List Event) → AllFit workers state events
-    → AllFit workers (replay state events) more → AllFit workers state (events ++ more)
-AllFit-append workers state [] more fit later = later
-AllFit-append workers state (event ∷ events) more fit later = (fit.0, AllFit-append workers (after_event state event) events more fit.1 later)

@@ -23,8 +23,9 @@ use Rattle.kte_core.specs.declared.reply.Refusal.TheVariants.{Closed}
 use Rattle.kte_core.specs.declared.request.OutsideCall.{OutsideCall}
 use Rattle.kte_core.specs.declared.request.Request.TheVariants.{Cmd, Close, Outcome}
 use Rattle.kte_core.proofs.TransactionLemmas.{IsPlain, still, depth-ended, depth-noted}
-use Rattle.kte_run.specs.Schedule.{depth_by, asked_from}
-use Rattle.kte_run.specs.Editor.{Part, left, first_of, next_of, depth_told, own}
+use Rattle.kte_desk.specs.Schedule.{depth_by, asked_from}
+use Rattle.kte_desk.specs.Serving.{own}
+use Rattle.kte_run.specs.Editor.{Part, left, first_of, next_of, depth_told}
 
 -- the seat has taken a job
 abbrev pub is_took : Reply → Bool

@@ -7,11 +7,10 @@ use Rattle.kte_text.specs.Primitives.{FitInTurn}
 use Rattle.kte_text.specs.declared.primitive.Primitive.{Primitive}
 use Rattle.kte_record.specs.Transactions.{joined}
 use Rattle.kte_undo.specs.Steps.{redo_of}
-use Rattle.kte_undo.specs.declared.step.Step.{Step}
 use Rattle.kte_command.specs.declared.command.Command.TheVariants.{Sync, Save}
 use Rattle.kte_core.specs.Editing.{finished_at, if_made, still_open}
 use Rattle.kte_core.specs.State.{State, Reaction, refused}
-use Rattle.kte_core.specs.React.{ask_outside, cut_at, react, react_by, react_command}
+use Rattle.kte_core.specs.React.{ask_outside, cut_at, react, react_by}
 use Rattle.kte_core.specs.Replay.{IsAnswered, after_event, came_of}
 use Rattle.kte_core.specs.declared.event.Event.{Event}
 use Rattle.kte_core.specs.declared.reply.Reply.{Reply}
@@ -20,14 +19,14 @@ use Rattle.kte_core.specs.declared.reply.Refusal.TheVariants.{Closed}
 use Rattle.kte_core.specs.declared.request.OutsideCall.{OutsideCall}
 use Rattle.kte_core.specs.declared.request.OutsideCall.TheVariants as Call
 use Rattle.kte_core.specs.declared.request.Request.{Request}
-use Rattle.kte_core.specs.declared.request.Request.TheVariants.{Cmd, Close, Take, Deliver, GiveBack, Outcome}
+use Rattle.kte_core.specs.declared.request.Request.TheVariants.{Cmd}
 use Rattle.kte_core.proofs.CaseLemmas.{event_grows}
-use Rattle.kte_core.proofs.TransactionLemmas.{Parts, parts-by, quiet_unless, unless}
+use Rattle.kte_core.proofs.TransactionLemmas.{IsShut, Moves, moves-by, opened, finished_and_open}
 use Rattle.kte_run.specs.declared.editor.Told.{Told}
-use Rattle.kte_run.specs.Schedule.{Due, append, append_of, delivery, due_of, lost_by, nothing, outcome, outcome_of}
-use Rattle.kte_run.specs.Editor.{IsOwed, Part, current_after, finished_by, own, IsAt, Follows, call_after, current_before, depth_told, finished_after}
+use Rattle.kte_desk.specs.Schedule.{Due, append, append_of, delivery, due_of, lost_by, nothing, outcome, outcome_of}
+use Rattle.kte_desk.specs.Serving.{own}
+use Rattle.kte_run.specs.Editor.{IsOwed, Part, current_after, finished_by, IsAt, Follows, call_after, current_before, depth_told, finished_after}
 use Rattle.kte_run.specs.Calls.{is_save, is_saved, listed}
-use Rattle.kte_run.proofs.GroupMoves.{IsShut, moves, opened}
 use Rattle.kte_run.proofs.AskLemmas.{KeepsPart}
 
 -- ---- a transaction that is finished has primitives
@@ -48,33 +47,10 @@ filled-at depth ps =
       | inr f ↦ rw f tt
     ]
 
-filled-none : (finished : Option (List Primitive)) → finished ≡ None → IsFilled finished
-filled-none finished none = subst IsFilled (sym none) tt
-
-filled-react : (state : State) (request : Request) → IsShut state
-    → FitInTurn (react state 0 request).after.editing.trail state.editing.loaded.text → IsFilled (react state 0 request).finished
-filled-react state (Cmd command) shut =
-    let came : Reaction = react_command state command in
-    unless (λ (r : Reaction). FitInTurn r.after.editing.trail state.editing.loaded.text → IsFilled r.finished) state came (λ fit. tt)
-    (λ fit. subst IsFilled (sym (moves state command shut fit).finished) (filled-at came.after.editing.edits.depth (opened state came)))
-filled-react state Close shut = λ fit. filled-none _ (quiet_unless state 0 Close (λ is. is)).finished
-filled-react state Take shut = λ fit. filled-none _ (quiet_unless state 0 Take (λ is. is)).finished
-filled-react state (Deliver job findings) shut = λ fit. filled-none _ (quiet_unless state 0 (Deliver job findings) (λ is. is)).finished
-filled-react state (GiveBack job) shut = λ fit. filled-none _ (quiet_unless state 0 (GiveBack job) (λ is. is)).finished
-filled-react state (Outcome call ok) shut = λ fit. tt
-
-filled : (state : State) (request : Request) (answer : Reply) → cut_at answer ≡ None → IsShut state
-    → FitInTurn (after_event state (own request answer)).editing.trail state.editing.loaded.text
-    → IsFilled (came_of state (own request answer)).finished
-filled state request answer whole shut =
-    subst (λ (at : Option ℕ). FitInTurn (react_by state 0 request at).after.editing.trail state.editing.loaded.text
-    → IsFilled (react_by state 0 request at).finished) (sym whole) (filled-react state request shut)
+filled : (state : State) (came : Reaction) → Moves state came → IsFilled came.finished
+filled state came moves = subst IsFilled (sym moves.finished) (filled-at came.after.editing.edits.depth (opened state came))
 
 -- ---- the primitives of the open transaction, and of the one that is finished
-
-none-open : (steps : List Step) → redo_of steps ≡ [] → steps ≡ []
-none-open [] none = refl
-none-open (step ∷ steps) none = absurd (cc)
 
 listed-is : (finished : Option (List Primitive)) → IsFilled finished → listed (joined (option_to_list finished)) ≡ option_to_list finished
 listed-is None is = refl
@@ -113,12 +89,11 @@ moved state part later lost due request answer made done finished at follows ans
     let came : Reaction = came_of state event in
     let grown = event_grows state event in
     let shut : IsShut state = λ none. at.current ∙ at.shut (sym at.depth ∙ none) in
-    let split : Parts state.editing came.made came.finished came.after.editing =
-    parts-by state 0 request (cut_at answer) (λ none. none-open state.editing.edits.current (shut none)) answered.cut fit in
+    let moves = moves-by state 0 request (cut_at answer) shut answered.cut fit in
     let all : part.current ++ made ≡ joined (option_to_list came.finished) ++ later.current =
     ap (λ (ps : List Primitive). ps ++ made) (sym at.current)
     ∙ ap (λ (ps : List Primitive). redo_of state.editing.edits.current ++ ps) made_is
-    ∙ split.parts
+    ∙ finished_and_open state came moves
     ∙ ap (λ (ps : List Primitive). joined (option_to_list came.finished) ++ ps) follows.at.current in
     let same : finished ≡ joined (option_to_list came.finished) =
     append_cancel_right finished (joined (option_to_list came.finished)) later.current (parts ∙ all) in
@@ -130,7 +105,7 @@ moved state part later lost due request answer made done finished at follows ans
           ∙ ap (λ (ps : List Primitive). done ++ ps) (sym parts)
           ∙ sym (append_assoc done finished later.current);
       loaded = grown.loaded;
-      listed_is = ap listed same ∙ listed-is came.finished (filled state request answer whole shut fit);
+      listed_is = ap listed same ∙ listed-is came.finished (filled state came moves);
     }
 
 -- what the editor finishes and what it keeps open, where this changed of its part

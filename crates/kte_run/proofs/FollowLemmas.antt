@@ -9,8 +9,8 @@ use Rattle.kte_swap.specs.Swap.{SwapView}
 use Rattle.kte_command.specs.declared.command.Command.{Command}
 use Rattle.kte_command.specs.declared.command.Command.TheVariants as command
 use Rattle.kte_core.specs.Editing.{if_made, finished_at}
-use Rattle.kte_core.specs.State.{State, Reaction, replied}
-use Rattle.kte_core.specs.React.{react_by, cut_at}
+use Rattle.kte_core.specs.State.{State, Reaction}
+use Rattle.kte_core.specs.React.{cut_at}
 use Rattle.kte_core.specs.Replay.{IsAnswered, came_of, after_event}
 use Rattle.kte_core.specs.declared.reply.Reply.{Reply}
 use Rattle.kte_core.specs.declared.reply.Reply.TheVariants as reply
@@ -18,12 +18,13 @@ use Rattle.kte_core.specs.declared.request.OutsideCall.{OutsideCall}
 use Rattle.kte_core.specs.declared.request.OutsideCall.TheVariants as Call
 use Rattle.kte_core.specs.declared.request.Request.{Request}
 use Rattle.kte_core.specs.declared.request.Request.TheVariants.{Cmd, Close, Outcome}
+use Rattle.kte_core.proofs.TransactionLemmas.{Moves, IsShut, opened, moves-by}
 use Rattle.kte_run.specs.declared.editor.Told.{Told}
-use Rattle.kte_run.specs.Schedule.{Due, nothing, append, outcome, delivery, IsDue, IsFree, append_of, asked_from, depth_by, due_of, lost_by}
-use Rattle.kte_run.specs.Editor.{Part, IsAt, IsOwed, IsTold, Follows, asked, call_after, call_of, current_after, current_before, depth_told, finished_after, finished_by, is_lost, left, lost_with, next_of, own, telling}
+use Rattle.kte_desk.specs.Schedule.{Due, nothing, append, outcome, delivery, IsDue, IsFree, append_of, asked_from, depth_by, due_of, lost_by}
+use Rattle.kte_desk.specs.Serving.{own}
+use Rattle.kte_run.specs.Editor.{Part, IsAt, IsOwed, IsTold, Follows, asked, call_after, call_of, current_after, current_before, depth_told, finished_after, finished_by, is_lost, left, lost_with, next_of, telling}
 use Rattle.kte_run.specs.Calls.{Leaves}
 use Rattle.kte_run.proofs.EditorLemmas.{is_took, knows, tells, came-command, came-close, came-outcome}
-use Rattle.kte_run.proofs.GroupMoves.{Moves, IsShut, opened, moves, moves-quiet, moves-close}
 
 -- ---- which call follows
 
@@ -230,6 +231,28 @@ record Knowing (state : State) (was_lost : Bool) (was : Part) : Type 0 where
 is_shut : (state : State) (lost : Bool) (was : Part) → Knowing state lost was → IsShut state
 is_shut state lost was knowing none = knowing.current ∙ knowing.shut (sym knowing.depth ∙ none)
 
+midst-by : (state : State) (lost : Bool) (request : Request) (answer : Reply) (made : List Primitive) (was : Part)
+    → Came state request answer made → Knowing state lost was
+    → depth_told answer was.depth ≡ (came_of state (own request answer)).after.editing.edits.depth
+    → (came_of state (own request answer)).after.closed ≡ was.closed
+    → (call_after answer was.asking ≡ Call.Append
+    → due_of request (came_of state (own request answer)).finished answer ≡ append_of (came_of state (own request answer)).finished)
+    → ((call : OutsideCall) → answer ≡ reply.Asked → was.asking ≡ Some call
+    → due_of request (came_of state (own request answer)).finished answer ≡ outcome call)
+    → Midst state lost answer made (due_of request (came_of state (own request answer)).finished answer) was (came_of state (own request answer))
+midst-by state lost request answer made was by knowing told closed due_append due_outcome = record {
+  told = told;
+  closed = closed;
+  moves = moves-by state 0 request (cut_at answer) (is_shut state lost was knowing) by.answered.cut by.fit;
+  answered = by.answered.reply;
+  made = by.made;
+  current = knowing.current;
+  shut = knowing.shut;
+  lost = knowing.lost;
+  due_append = due_append;
+  due_outcome = due_outcome;
+}
+
 midst-command : (state : State) (lost : Bool) (command : Command) (answer : Reply) (made : List Primitive) (was : Part)
     → Came state (Cmd command) answer made → Knowing state lost was → state.closed ≡ false → was.closed ≡ false → was.asking ≡ call_of command
     → Midst state lost answer made (due_of (Cmd command) (came_of state (own (Cmd command) answer)).finished answer) was
@@ -237,22 +260,14 @@ midst-command : (state : State) (lost : Bool) (command : Command) (answer : Repl
 midst-command state lost command answer made was by knowing still_open open_part asks =
     let came = came-command state command answer still_open by.whole in
     let known = knows state command answer still_open by.whole by.answered in
-    let fit = subst (λ (c : Reaction). FitInTurn c.after.editing.trail state.editing.loaded.text) came by.fit in
     let untaken : is_took answer ≡ false =
     ap is_took (by.answered.reply ∙ ap (λ (c : Reaction). c.reply) came) ∙ (tells state command).untaken in
     let finished = (came_of state (own (Cmd command) answer)).finished in
-    record {
-      told = ap (depth_told answer) (sym knowing.depth) ∙ known.told ∙ sym known.depth;
-      closed = known.closed ∙ still_open ∙ sym open_part;
-      moves = subst (Moves state) (sym came) (moves state command (is_shut state lost was knowing) fit);
-      answered = by.answered.reply;
-      made = by.made;
-      current = knowing.current;
-      shut = knowing.shut;
-      lost = knowing.lost;
-      due_append = λ is. due-append command finished answer untaken (ap (call_after answer) (sym asks) ∙ is);
-      due_outcome = λ call is asking. ap (due_of (Cmd command) finished) is ∙ due-outcome command finished call (sym asks ∙ asking);
-    }
+    midst-by state lost (Cmd command) answer made was by knowing
+    (ap (depth_told answer) (sym knowing.depth) ∙ known.told ∙ sym known.depth)
+    (known.closed ∙ still_open ∙ sym open_part)
+    (λ is. due-append command finished answer untaken (ap (call_after answer) (sym asks) ∙ is))
+    (λ call is asking. ap (due_of (Cmd command) finished) is ∙ due-outcome command finished call (sym asks ∙ asking))
 
 midst-close : (state : State) (lost : Bool) (answer : Reply) (made : List Primitive) (was : Part)
     → Came state Close answer made → Knowing state lost was → state.closed ≡ false → was.closed ≡ true → was.asking ≡ None
@@ -260,19 +275,11 @@ midst-close : (state : State) (lost : Bool) (answer : Reply) (made : List Primit
 midst-close state lost answer made was by knowing still_open shut_part asks =
     let came = came-close state answer still_open by.whole in
     let is_closed : answer ≡ reply.Closed = by.answered.reply ∙ ap (λ (c : Reaction). c.reply) came in
-    let finished = (came_of state (own Close answer)).finished in
-    record {
-      told = ap (λ (r : Reply). depth_told r was.depth) is_closed ∙ sym knowing.depth ∙ sym (ap (λ (c : Reaction). c.after.editing.edits.depth) came);
-      closed = ap (λ (c : Reaction). c.after.closed) came ∙ sym shut_part;
-      moves = subst (Moves state) (sym came) (moves-close state (is_shut state lost was knowing));
-      answered = by.answered.reply;
-      made = by.made;
-      current = knowing.current;
-      shut = knowing.shut;
-      lost = knowing.lost;
-      due_append = λ is. ap (due_of Close finished) is_closed;
-      due_outcome = λ call is asking. absurd (cc);
-    }
+    midst-by state lost Close answer made was by knowing
+    (ap (λ (r : Reply). depth_told r was.depth) is_closed ∙ sym knowing.depth ∙ sym (ap (λ (c : Reaction). c.after.editing.edits.depth) came))
+    (ap (λ (c : Reaction). c.after.closed) came ∙ sym shut_part)
+    (λ is. ap (due_of Close (came_of state (own Close answer)).finished) is_closed)
+    (λ call is asking. absurd (cc))
 
 midst-outcome : (state : State) (lost : Bool) (call : OutsideCall) (ok : Bool) (answer : Reply) (made : List Primitive) (was : Part)
     → Came state (Outcome call ok) answer made → Knowing state lost was → state.closed ≡ was.closed → was.asking ≡ None
@@ -281,20 +288,11 @@ midst-outcome : (state : State) (lost : Bool) (call : OutsideCall) (ok : Bool) (
 midst-outcome state lost call ok answer made was by knowing same asks =
     let came = came-outcome state call ok answer by.whole in
     let noted : answer ≡ reply.Noted = by.answered.reply ∙ ap (λ (c : Reaction). c.reply) came in
-    let finished = (came_of state (own (Outcome call ok) answer)).finished in
-    let quiet = moves-quiet state (replied state reply.Noted) (record { editing = refl; made = refl; finished = refl }) (is_shut state lost was knowing) in
-    record {
-      told = ap (λ (r : Reply). depth_told r was.depth) noted ∙ sym knowing.depth ∙ sym (ap (λ (c : Reaction). c.after.editing.edits.depth) came);
-      closed = ap (λ (c : Reaction). c.after.closed) came ∙ same;
-      moves = subst (Moves state) (sym came) quiet;
-      answered = by.answered.reply;
-      made = by.made;
-      current = knowing.current;
-      shut = knowing.shut;
-      lost = knowing.lost;
-      due_append = λ is. ap (due_of (Outcome call ok) finished) noted;
-      due_outcome = λ call is asking. absurd (cc);
-    }
+    midst-by state lost (Outcome call ok) answer made was by knowing
+    (ap (λ (r : Reply). depth_told r was.depth) noted ∙ sym knowing.depth ∙ sym (ap (λ (c : Reaction). c.after.editing.edits.depth) came))
+    (ap (λ (c : Reaction). c.after.closed) came ∙ same)
+    (λ is. ap (due_of (Outcome call ok) (came_of state (own (Outcome call ok) answer)).finished) noted)
+    (λ call is asking. absurd (cc))
 
 -- ---- what follows
 

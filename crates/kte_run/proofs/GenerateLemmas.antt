@@ -1,6 +1,7 @@
 -- What is printed for a generated script.
-use Rattle.std.proofs.Common.{◌≡◌, ◌≢◌, ◌∙◌, ◌⊎◌, inl, inr, ℕ, ◌+◌, ◌≤◌, Bool, true, false, List, [], ◌∷◌, ◌++◌, length, Option, Some, None, Result, Ok, IfSome, IsSomeAnd, refl, ap, sym, subst, arith}
-use Rattle.std.proofs.lemmas.List.Elements.{All-nil, All-cons}
+use Rattle.std.proofs.Common.{◌≡◌, ◌≢◌, ◌∙◌, inr, ℕ, ◌≤◌, false, List, [], ◌∷◌, ◌++◌, length, Option, Some, None, Result, Ok, IfSome, IsSomeAnd, refl, ap, sym, subst, arith, Err, length-drop}
+use Rattle.std.specs.Prelude.{◌↔◌}
+use Rattle.std.proofs.lemmas.Str.{IsUtf8-nil}
 use Rattle.kte_causes.specs.Contents.{AppendsPrefix}
 use Rattle.kte_causes.specs.Faults.{Rose}
 use Rattle.kte_causes.specs.Moments.{Moment, AddsMoments, Staying, latest}
@@ -9,8 +10,12 @@ use Rattle.kte_causes.specs.declared.causes.SinkFail.{SinkFail}
 use Rattle.kte_causes.specs.declared.causes.SinkFail.TheVariants as sink
 use Rattle.kte_causes.proofs.CallerLemmas.{swap_now-stays}
 use Rattle.kte_text.specs.Digests.{digest_of}
-use Rattle.kte_text.specs.Files.{Loads}
+use Rattle.kte_text.specs.Files.{Loads, Refuses}
+use Rattle.kte_text.specs.declared.loading.LoadFault.{LoadFault}
+use Rattle.kte_text.specs.declared.loading.LoadFault.TheVariants as load_fault
+use Rattle.kte_text.specs.Reading.{mark_len}
 use Rattle.kte_text.specs.declared.loading.Loaded.{Loaded}
+use Rattle.kte_text.proofs.FileLemmas.{Refuses-small, file_size-le}
 use Rattle.kte_record.specs.Recovery.{Answer, Answers}
 use Rattle.kte_record.specs.Transactions.{written}
 use Rattle.kte_recover.specs.Answers.{answer_of}
@@ -25,24 +30,18 @@ use Rattle.kte_gen.specs.Commands as generator
 use Rattle.kte_gen.specs.declared.TheConstants.{MAX_COMMANDS}
 use Rattle.kte_core.specs.Replay.{Session, beginning, present}
 use Rattle.kte_core.specs.declared.event.Event.{Event}
-use Rattle.kte_core.specs.declared.request.OutsideCall.TheVariants as Call
-use Rattle.kte_core.specs.declared.request.Request.{Request}
-use Rattle.kte_core.specs.declared.request.Request.TheVariants.{Cmd, Close, Take, Deliver, GiveBack, Outcome}
 use Rattle.kte_report.specs.Journal.{journal_text}
 use Rattle.kte_report.specs.Report.{report, summary}
 use Rattle.kte_run.specs.declared.TheConstants.{MAX_REVISIONS}
 use Rattle.kte_run.specs.declared.status.Status.{Status}
 use Rattle.kte_run.specs.Generate.{IsGeneration, Summarises, done_of}
-use Rattle.kte_run.specs.Outcomes.{AtLast, Begins, Counted, Holds, Keeps, RoseBy, append_charge, call_charge, calls_of, failed_appends, failed_calls, file_after, unsaved_after}
-use Rattle.kte_run.specs.Run.{IsLoadable, start_of}
-use Rattle.kte_run.specs.Schedule.{NoneFailed, Schedule, WentWell, lost_after, lost_by}
+use Rattle.kte_run.specs.Outcomes.{Begins, Counted, Holds, Keeps, failed_appends, failed_calls, file_after, unsaved_after}
+use Rattle.kte_run.specs.Run.{CallsStay, DidNotRise, IsLoadable, start_of}
+use Rattle.kte_desk.specs.Schedule.{NoneFailed, Schedule}
 use Rattle.kte_run.specs.Statuses.{sink_status}
 use Rattle.kte_run.proofs.Files.{some_same}
 use Rattle.kte_run.proofs.GeneratedLemmas.{generated}
-use Rattle.kte_run.proofs.OutputLemmas.{Keeps-session, Prints-session}
-
-ok-same : (a b : List Command) → ◌≡◌ {A = Result (List Command) ScriptFault} (Ok a) (Ok b) → a ≡ b
-ok-same a b same = cc
+use Rattle.kte_run.proofs.OutputLemmas.{Keeps-session, Prints-session, none-failed, ok-same}
 
 -- ---- what was recovered
 
@@ -72,41 +71,30 @@ as_many number count commands some most spelled =
     let law = generated number count some most in
     ap (λ (cs : List Command). length cs) (ok-same commands law.0 (sym spelled ∙ law.1)) ∙ law.3
 
+-- .. and is read, unless memory runs out
+pub no_fault : (number count : ℕ) (bytes : List ℕ) (fault : ScriptFault) → 1 ≤ count → count ≤ MAX_COMMANDS
+    → bytes ≡ generator.script_of number count → script_of bytes ≢ Err fault
+no_fault number count bytes fault some most is fails =
+    let both = sym (generated number count some most).1 ∙ ap (λ (b : List ℕ). script_of b) (sym is) ∙ fails in
+    cc
+
+-- an empty file is loaded
+pub empty-loads : IsLoadable []
+empty-loads fault =
+    Refuses-small [] fault (omega arith) IsUtf8-nil (omega (arith, file_size-le [] IsUtf8-nil, length-drop {A = ℕ} (mark_len []) []))
+
+-- .. unless memory runs out
+pub not_refused : (bytes : List ℕ) (result : Result Loaded LoadFault) (fault : LoadFault) → bytes ≡ [] → fault ≢ load_fault.NoMemory
+    → ((given : LoadFault) → given ≢ load_fault.NoMemory → (result ≡ Err given) ↔ Refuses bytes given) → result ≢ Err fault
+not_refused bytes result fault empty other refused is =
+    empty-loads fault (subst (λ (b : List ℕ). Refuses b fault) empty ((refused fault other).0 is))
+
 -- ---- a run over a disk that never fails
 
--- a call that is not charged went well, and the swap file is not lost by it
-went : (request : Request) → append_charge request ≡ 0 → call_charge false request ≡ 0 → WentWell request × (lost_by false request ≡ false)
-went (Cmd command) appends calls = (tt, refl)
-went Close appends calls = (tt, refl)
-went Take appends calls = (tt, refl)
-went (Deliver job findings) appends calls = (tt, refl)
-went (GiveBack job) appends calls = (tt, refl)
-went (Outcome Call.Append true) appends calls = (refl, refl)
-went (Outcome Call.Sync true) appends calls = (refl, refl)
-went (Outcome Call.Save true) appends calls = (refl, refl)
-went (Outcome Call.Append false) appends calls = absurd (cc appends)
-went (Outcome Call.Sync false) appends calls = absurd (cc calls)
-went (Outcome Call.Save false) appends calls = absurd (cc calls)
-
-none-lost : (events : List Event) → failed_appends events ≡ 0 → failed_calls false events ≡ 0 → NoneFailed events × (lost_after false events ≡ false)
-none-lost [] appends calls = (All-nil (λ (event : Event). WentWell event.request), refl)
-none-lost (event ∷ events) appends calls =
-    let here = went event.request (omega (arith, appends)) (omega (arith, calls)) in
-    let rest : failed_calls (lost_by false event.request) events ≡ 0 = omega (arith, calls) in
-    let more = none-lost events (omega (arith, appends)) (subst (λ (lost : Bool). failed_calls lost events ≡ 0) here.1 rest) in (
-      All-cons (λ (e : Event). WentWell e.request) event events here.0 more.0,
-      ap (λ (lost : Bool). lost_after lost events) here.1 ∙ more.1,
-    )
-
-no-append : (n : ℕ) → RoseBy n 0 0 → n ≡ 0
-no-append n (inl more) = omega (arith, more)
-no-append n (inr last) = absurd (omega (arith, last))
-
-no-call : (n : ℕ) → (calls_of (λ _. 0) + n ≤ calls_of (λ _. 0)) ⊎ AtLast (λ _. 0) → n ≡ 0
-no-call n (inl more) = omega (arith, more)
-no-call n (inr (inl last)) = absurd (omega (arith, last))
-no-call n (inr (inr (inl last))) = absurd (omega (arith, last))
-no-call n (inr (inr (inr last))) = absurd (omega (arith, last))
+calm : CallsStay (λ _. 0) (λ _. 0)
+calm =
+    let still : DidNotRise 0 0 = (refl, omega arith) in
+    record { append = still; sync = still; replace = still; reset = still }
 
 -- What such a run leaves: its history, and the files that the history says
 record Ran (commands : List Command) (loaded : Loaded) (moments : List Moment) (events : List Event) : Type 0 where
@@ -123,8 +111,8 @@ ran : (commands : List Command) (loaded : Loaded) (swap : SwapView) (first last 
     → Keeps file (beginning first.loaded first.limit) last.events (Some moments))
     → Ran commands loaded moments last.events
 ran commands loaded swap first last moments loads loadable beside is schedule begun counted keeps =
-    let none = none-lost last.events (no-append (failed_appends last.events) counted.appends) (no-call (failed_calls false last.events) counted.calls) in
-    let prints = Prints-session commands loaded (journal_text last.events ++ report (present last)) first last is schedule begun refl in
+    let none = none-failed last.events (λ _. 0) (λ _. 0) counted calm in
+    let prints = Prints-session 0 commands loaded (journal_text last.events ++ report (present last)) first last is schedule begun refl in
     record {
       schedule = prints.schedule;
       well = none.0;

@@ -39,7 +39,7 @@ use Rattle.kte_gen.specs.Commands.{Generator, spell_numbers, line_of, room_of, c
 use Rattle.kte_gen.specs.Commands as generator
 use Rattle.kte_gen.proofs.DrawLemmas.{drawn_less}
 use Rattle.kte_gen.proofs.KeptLemmas.{Kept, kept_one_more}
-use Rattle.kte_run.proofs.Ascii.{lossy-ascii}
+use Rattle.kte_report.proofs.Ascii.{lossy-ascii}
 
 decide : (b : Bool) → (b ≡ true) ⊎ (b ≡ false)
 decide true = inl refl

@@ -32,12 +32,15 @@ use Rattle.kte_core.specs.declared.request.Request.{Request}
 use Rattle.kte_core.specs.declared.request.Request.TheVariants.{Cmd, Close, Take, Deliver, GiveBack, Outcome}
 use Rattle.kte_core.proofs.TransactionLemmas.{FitInTurn-later}
 use Rattle.kte_run.specs.declared.editor.Told.{Told}
-use Rattle.kte_run.specs.Schedule.{Due, lost_after, lost_by}
-use Rattle.kte_run.specs.Editor.{IsTold, Part, is_lost, lost_with, own, IsAt, Follows}
+use Rattle.kte_desk.specs.Schedule.{Due, lost_after, lost_by}
+use Rattle.kte_desk.specs.Serving.{own}
+use Rattle.kte_run.specs.Editor.{IsTold, Part, is_lost, lost_with, IsAt, Follows}
 use Rattle.kte_run.specs.Calls.{SavedWith, file_told, is_save, is_saved, listed, transactions_told}
 use Rattle.kte_run.specs.Outcomes.{Begins, Holds, Keeps, file_after, file_by, unsaved_after, unsaved_by}
 use Rattle.kte_run.proofs.FinishLemmas.{joined-listed, moved, saved-shut}
-use Rattle.kte_run.proofs.AskLemmas.{NextBy, part_of}
+use Rattle.kte_run.proofs.ApartLemmas.{Same}
+use Rattle.kte_run.proofs.AskLemmas.{NextBy}
+use Rattle.kte_run.specs.Editor.{part_of}
 use Rattle.kte_run.proofs.EditorLemmas.{came-outcome}
 
 -- ---- one event more
@@ -117,6 +120,24 @@ pub record Keeping (file : List ℕ) (first now : State) (events : List Event) (
   pub stands : Stands part.swap text (ts_owed part.owed (unsaved_after first events [])) moments
   pub saved : is_lost part.swap.state ≡ false
       → IfSome moments (λ told. (latest told).saved ≡ file_owed part.owed now (file_after first events file))
+
+-- .. after others that tell the same, and edit nothing
+pub Keeping-same : (file : List ℕ) (first now later_now : State) (events later : List Event) (part : Part) (moments : Option (List Moment))
+    → Same first events later → later_now.editing ≡ now.editing → Keeping file first now events part moments
+    → Keeping file first later_now later part moments
+Keeping-same file first now later_now events later part moments same is keeping =
+    let files : file_owed part.owed later_now (file_after first later file) ≡ file_owed part.owed now (file_after first events file) =
+    ap (file_owed part.owed later_now) (same.file file)
+    ∙ ap (λ (e : Editing). if is_saved part.owed then saved_form e else file_after first events file) is in
+    record {
+      done = keeping.done;
+      text = keeping.text;
+      trail = ap (λ (e : Editing). e.trail) is ∙ keeping.trail;
+      loaded = ap (λ (e : Editing). e.loaded) is ∙ keeping.loaded;
+      same = ap (λ (ts : List (List Primitive)). after_all (joined (ts_owed part.owed ts)) keeping.text) same.unsaved ∙ keeping.same;
+      stands = subst (λ (ts : List (List Primitive)). Stands part.swap keeping.text (ts_owed part.owed ts) moments) (sym same.unsaved) keeping.stands;
+      saved = λ kept. subst (λ (f : List ℕ). IfSome moments (λ told. (latest told).saved ≡ f)) (sym files) (keeping.saved kept);
+    }
 
 -- the first ones of primitives that fit
 fit-front : (ps qs : List Primitive) (text : List (List ℕ)) → FitInTurn (ps ++ qs) text → FitOneByOne ps text

@@ -28,8 +28,8 @@ use Rattle.kte_core.specs.declared.request.Request.{Request}
 use Rattle.kte_core.specs.declared.request.Request.TheVariants.{Cmd, Close, Take, Deliver, GiveBack, Outcome}
 use Rattle.kte_core.proofs.OneJobLemmas.{job_of_state, taken_state, waiting_state}
 use Rattle.kte_core.proofs.SeatLemmas.{only_close}
-use Rattle.kte_run.specs.Schedule.{AllFit, Due, Fits, InTurn, IsDeliveryOf, IsDue, IsFree, IsOutcomeOf, IsServed, NoneFailed, Schedule, WentWell, asked_for, asked_in, depth_after, due_of, if_asked, is_refused, lost_by}
-use Rattle.kte_run.specs.Schedule.Due.{nothing, append, outcome, delivery}
+use Rattle.kte_desk.specs.Schedule.{AllFit, Due, Fits, InTurn, IsDeliveryOf, IsDue, IsFree, IsOutcomeOf, IsServed, NoneFailed, Schedule, WentWell, asked_for, asked_in, depth_after, due_of, if_asked, is_refused, lost_by}
+use Rattle.kte_desk.specs.Schedule.Due.{nothing, append, outcome, delivery}
 
 -- ---- the event of a request
 

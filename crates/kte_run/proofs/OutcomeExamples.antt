@@ -14,9 +14,10 @@ use Rattle.kte_core.specs.declared.reply.Reply.TheVariants as reply
 use Rattle.kte_core.specs.declared.request.OutsideCall.TheVariants as Call
 use Rattle.kte_core.specs.declared.request.Request.TheVariants.{Cmd, Outcome}
 use Rattle.kte_run.specs.Calls.{file_told, transactions_told}
-use Rattle.kte_run.specs.Editor.{call_after, finished_by, own, IsTold}
+use Rattle.kte_desk.specs.Serving.{own}
+use Rattle.kte_run.specs.Editor.{call_after, finished_by, IsTold}
 use Rattle.kte_run.specs.Outcomes.{failed_appends, failed_calls, unsaved_after}
-use Rattle.kte_run.specs.Schedule.{lost_after}
+use Rattle.kte_desk.specs.Schedule.{lost_after}
 
 -- `hi` on one line
 abbrev hi : State

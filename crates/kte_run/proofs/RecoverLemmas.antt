@@ -1,5 +1,5 @@
 -- What a saved file and its swap file recover to, as a status tells it.
-use Rattle.std.proofs.Common.{◌≡◌, ◌≢◌, ◌⊎◌, ◌∙◌, ℕ, ◌+◌, ◌<◌, Bool, true, false, List, [], ◌∷◌, length, Option, Some, None, Result, Ok, Err, IfSome, IfOk, IfErr, IsErrAnd, Contains, inl, inr, refl, sym, ap, subst, arith}
+use Rattle.std.proofs.Common.{◌≡◌, ◌≢◌, ◌⊎◌, ◌∙◌, ℕ, ◌<◌, Bool, true, false, List, [], ◌∷◌, length, Option, Some, None, Result, Ok, Err, IfSome, IfOk, IfErr, IsErrAnd, Contains, inl, inr, refl, sym, ap, subst, arith}
 use Rattle.std.specs.Io.KnownBytes.{Appends}
 use Rattle.kte_causes.specs.Contents.{AppendsPrefix}
 use Rattle.kte_causes.specs.DiskFaults.{AllStay}
@@ -10,11 +10,12 @@ use Rattle.kte_causes.specs.declared.causes.DiskCall.{DiskCall}
 use Rattle.kte_causes.specs.declared.causes.DiskCall.TheVariants.{SwapAt}
 use Rattle.kte_causes.specs.declared.causes.SinkFail.{SinkFail}
 use Rattle.kte_causes.specs.declared.causes.SinkFail.TheVariants as sink
-use Rattle.kte_text.specs.Files.{Loads, Refuses}
+use Rattle.kte_text.specs.Files.{Refuses}
 use Rattle.kte_text.specs.declared.loading.Eol.{Eol}
+use Rattle.kte_text.specs.declared.loading.Loaded.{Loaded}
 use Rattle.kte_text.specs.declared.loading.LoadFault.{LoadFault}
 use Rattle.kte_text.specs.declared.loading.LoadFault.TheVariants as load
-use Rattle.kte_record.specs.Recovery.{Answer, Answers, no_swap, refused, clean, torn, damaged}
+use Rattle.kte_record.specs.Recovery.{Answer, Answers, no_swap, refused, damaged}
 use Rattle.kte_record.proofs.OneAnswer.{one_answer}
 use Rattle.kte_recover.specs.Answers.{IsOfFile, answer_by}
 use Rattle.kte_recover.specs.declared.answer.Tail.{Tail}
@@ -25,7 +26,7 @@ use Rattle.kte_report.specs.Recovery.{recovered_text, damaged_text}
 use Rattle.kte_run.specs.declared.status.Status.{Status}
 use Rattle.kte_run.specs.declared.status.Status.TheVariants as status
 use Rattle.kte_run.specs.Run.{Outer, DiskRose, FilesStay}
-use Rattle.kte_run.specs.Recover.{IfBoth, IsRecovery, Shows, Tells, TellsAnswer, WritesRecovery, WritesRecoveryPrefix, has_text, is_answer}
+use Rattle.kte_run.specs.Recover.{IfBoth, IsRecovery, Shows, Tells, TellsAnswer, WritesRecovery, WritesRecoveryPrefix, has_text, is_answer, text_for}
 use Rattle.kte_run.specs.Statuses.{file_status, is_of_file, is_of_length, is_of_recovery, is_unread, is_unwritten, sink_status}
 use Rattle.kte_run.proofs.Files.{later, not_memory}
 
@@ -35,34 +36,32 @@ pub tells_each : (saved swap : List ℕ) (given : Status) → Tells saved swap g
 tells_each saved swap given tells answer answers =
     subst (λ (a : Answer). TellsAnswer a given) (one_answer saved swap tells.answer answer tells.answers answers) tells.told
 
--- a recovered text, which is printed
-shows_by : (tail : Tail) (saved swap : List ℕ) (done : ℕ) (text : List (List ℕ)) (eol : Eol) (bom : Bool) (output : List ℕ)
-    → Answers saved swap (answer_by tail done text) → IsOfFile saved eol bom
-    → output ≡ recovered_text (record { text = text; eol = eol; bom = bom; done = done; tail = tail }) → Shows saved swap status.Ok output
-shows_by Clean saved swap done text eol bom output answers file is = record {
-  tells = record { answer = clean done text; answers = answers; told = refl };
-  loaded = file.loaded;
-  loads = file.loads;
-  printed = ap Some (
-      ap (λ (e : Eol). recovered_text (record { text = text; eol = e; bom = file.loaded.bom; done = done; tail = Clean })) (sym file.eol_is)
-      ∙ ap (λ (b : Bool). recovered_text (record { text = text; eol = eol; bom = b; done = done; tail = Clean })) (sym file.bom_is)
-      ∙ sym is);
-}
-shows_by Torn saved swap done text eol bom output answers file is = record {
-  tells = record { answer = torn done text; answers = answers; told = refl };
-  loaded = file.loaded;
-  loads = file.loads;
-  printed = ap Some (
-      ap (λ (e : Eol). recovered_text (record { text = text; eol = e; bom = file.loaded.bom; done = done; tail = Torn })) (sym file.eol_is)
-      ∙ ap (λ (b : Bool). recovered_text (record { text = text; eol = eol; bom = b; done = done; tail = Torn })) (sym file.bom_is)
-      ∙ sym is);
-}
+-- a recovered text, however its records end
+told_by : (tail : Tail) (done : ℕ) (text : List (List ℕ)) → TellsAnswer (answer_by tail done text) status.Ok
+told_by Clean done text = refl
+told_by Torn done text = refl
+
+text_by : (tail : Tail) (done : ℕ) (text : List (List ℕ)) (loaded : Loaded) → text_for (answer_by tail done text) loaded
+    ≡ Some (recovered_text (record { text = text; eol = loaded.eol; bom = loaded.bom; done = done; tail = tail }))
+text_by Clean done text loaded = refl
+text_by Torn done text loaded = refl
 
 pub shows_found : (saved swap : List ℕ) (found : Recovered) (output : List ℕ)
     → Answers saved swap (answer_by found.tail found.done found.text) → IsOfFile saved found.eol found.bom
     → output ≡ recovered_text found → Shows saved swap status.Ok output
-shows_found saved swap found output answers file is =
-    shows_by found.tail saved swap found.done found.text found.eol found.bom output answers file is
+shows_found saved swap found output answers file is = record {
+  tells = record {
+    answer = answer_by found.tail found.done found.text;
+    answers = answers;
+    told = told_by found.tail found.done found.text;
+  };
+  loaded = file.loaded;
+  loads = file.loads;
+  printed = text_by found.tail found.done found.text file.loaded ∙ ap Some (
+      ap (λ (e : Eol). recovered_text (record found { eol = e; bom = file.loaded.bom })) (sym file.eol_is)
+      ∙ ap (λ (b : Bool). recovered_text (record found { bom = b })) (sym file.bom_is)
+      ∙ sym is);
+}
 
 pub shows_damage : (saved swap : List ℕ) (damage : Damage) (output : List ℕ)
     → Answers saved swap (damaged damage.at damage.done damage.text) → IsOfFile saved damage.eol damage.bom

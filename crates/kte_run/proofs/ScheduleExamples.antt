@@ -1,7 +1,9 @@
 -- Worked examples of the definitions.
-use Rattle.std.proofs.Common.{◌≡◌, ℕ, false, [], ◌∷◌, Some, refl, inl, subst, arith}
+use Rattle.std.proofs.Common.{◌≡◌, ℕ, false, List, [], ◌∷◌, Some, refl, inl, subst, arith}
 use Rattle.std.specs.Prelude.{codes}
 use Rattle.kte_text.specs.declared.loading.Eol.TheVariants.{Lf}
+use Rattle.kte_text.specs.declared.primitive.Primitive.{Primitive}
+use Rattle.kte_text.specs.declared.primitive.Primitive.TheVariants.{Insert}
 use Rattle.kte_edit.specs.declared.change.Change.TheVariants as Change
 use Rattle.std.specs.Prelude.{Contains, slice_index}
 use Rattle.std.proofs.lemmas.List.Elements.{All-nil, All-cons}
@@ -22,15 +24,18 @@ use Rattle.kte_core.specs.declared.reply.Reply.{Reply}
 use Rattle.kte_core.specs.declared.reply.Reply.TheVariants as reply
 use Rattle.kte_core.specs.declared.request.Request.{Request}
 use Rattle.kte_core.specs.declared.request.Request.TheVariants.{Cmd, Close, Take, Deliver}
-use Rattle.kte_run.specs.Schedule.{asked_for, Schedule}
+use Rattle.kte_desk.specs.Schedule.{asked_for, Schedule}
 
 -- `hi` on one line
 abbrev hi : State
 hi = beginning (record { text = codes "hi" ∷ []; eol = Lf; bom = false }) 9
 
--- an event of the editor
+-- an event of the editor, and of a checker
 abbrev own : Request → Reply → Event
 own request reply = record { seat = 0; request = request; reply = reply }
+
+abbrev by : ℕ → Request → Reply → Event
+by seat request reply = record { seat = seat; request = request; reply = reply }
 
 abbrev mark : Command
 mark = Edit (Change.Insert (record { line = 0; column = 2 }) (codes "!" ∷ []))
@@ -89,6 +94,15 @@ no_blanks = record {
       let never = rw (last span.start.line line) at blank in
       absurd (cc)
 
+-- .. so that a job finds none that was taken at first, whatever was changed since
+found : (trail : List Primitive) (rule : Rule) (revision : ℕ) → Some Blanks ≡ Some rule → Some 0 ≡ Some revision
+    → AreFindings rule (text_at (codes "hi" ∷ []) trail revision) []
+found trail rule revision is at =
+    let blanks : Blanks ≡ rule = cc in
+    let first : 0 ≡ revision = cc in
+    subst (λ (r : Rule). AreFindings r (text_at (codes "hi" ∷ []) trail revision) []) blanks
+    (subst (λ (n : ℕ). AreFindings Blanks (text_at (codes "hi" ∷ []) trail n) []) first no_blanks)
+
 -- a job that is posted is taken and delivered once the session is closed
 one_check : Schedule (Check Blanks ∷ []) 0 hi (own (Cmd (Check Blanks)) (reply.Posted 1) ∷ own Close reply.Closed
     ∷ own Take (reply.Took 1 0) ∷ own (Deliver 1 []) (reply.Delivered 1 1 0) ∷ [])
@@ -102,7 +116,7 @@ one_check = record {
         (
           record {
             answered = record { allowed = All-nil SpanIsInReach; reply = refl; cut = tt };
-            finds = λ rule revision is at. found rule revision is at;
+            finds = λ rule revision is at. found [] rule revision is at;
           },
           tt,
         ),
@@ -122,11 +136,44 @@ one_check = record {
   ordered = refl;
   in_turn = (λ at. tt, (λ at. tt, (λ at. tt, (λ at. refl, tt))));
   done = All-cons (λ (job : Job). job.state ≡ Done) (record { rule = Blanks; state = Done }) [] refl (All-nil (λ (job : Job). job.state ≡ Done));
-} where
-  found : (rule : Rule) (revision : ℕ) → Some Blanks ≡ Some rule → Some 0 ≡ Some revision
-      → AreFindings rule (text_at (codes "hi" ∷ []) [] revision) []
-  found rule revision is at =
-      let blanks : Blanks ≡ rule = cc in
-      let first : 0 ≡ revision = cc in
-      subst (λ (r : Rule). AreFindings r (text_at (codes "hi" ∷ []) [] revision) []) blanks
-      (subst (λ (n : ℕ). AreFindings Blanks (text_at (codes "hi" ∷ []) [] n) []) first no_blanks)
+}
+
+-- the second of two checkers takes a job while the editor edits, and delivers what its rule finds in
+-- the text as it was
+two_checkers : Schedule (Check Blanks ∷ mark ∷ []) 2 hi (own (Cmd (Check Blanks)) (reply.Posted 1)
+    ∷ by 2 Take (reply.Took 1 0) ∷ own (Cmd mark) (reply.Edited 1 1 0)
+    ∷ by 2 (Deliver 1 []) (reply.Delivered 1 1 0) ∷ own Close reply.Closed ∷ [])
+two_checkers = record {
+  legal = (
+    record { answered = record { allowed = (refl, tt); reply = refl; cut = tt }; finds = tt },
+    (
+      record { answered = record { allowed = tt; reply = refl; cut = tt }; finds = tt },
+      (
+        record { answered = record { allowed = (refl, tt); reply = refl; cut = tt }; finds = tt },
+        (
+          record {
+            answered = record { allowed = All-nil SpanIsInReach; reply = refl; cut = tt };
+            finds = λ rule revision is at. found (Insert 0 2 (codes "!") ∷ []) rule revision is at;
+          },
+          (record { answered = record { allowed = refl; reply = refl; cut = tt }; finds = tt }, tt),
+        ),
+      ),
+    ),
+  );
+  fit = (
+    record { seat = omega arith; whole = refl; served = tt },
+    (
+      record { seat = omega arith; whole = refl; served = (omega arith, refl) },
+      (
+        record { seat = omega arith; whole = refl; served = tt },
+        (
+          record { seat = omega arith; whole = refl; served = refl },
+          (record { seat = omega arith; whole = refl; served = tt }, tt),
+        ),
+      ),
+    ),
+  );
+  ordered = refl;
+  in_turn = (λ at. tt, (λ at. absurd (omega arith), (λ at. tt, (λ at. absurd (omega arith), (λ at. inl tt, tt)))));
+  done = All-cons (λ (job : Job). job.state ≡ Done) (record { rule = Blanks; state = Done }) [] refl (All-nil (λ (job : Job). job.state ≡ Done));
+}

@@ -21,7 +21,7 @@ use Rattle.kte_core.specs.declared.reply.Reply.{Reply}
 use Rattle.kte_core.specs.declared.request.Request.{Request}
 use Rattle.kte_core.proofs.CaseLemmas.{event_grows}
 use Rattle.kte_core.proofs.TransactionLemmas.{FitInTurn-later}
-use Rattle.kte_run.specs.Editor.{own}
+use Rattle.kte_desk.specs.Serving.{own}
 use Rattle.kte_run.proofs.AskLemmas.{fit-now}
 
 -- a line is no longer than its text is large
@@ -82,14 +82,21 @@ lines-more ps n p before there has k d within =
           subst HasLine (sym (ap (λ (i : ℕ). slice_index_or ps i d) (sym same) ∙ get_or_from_slice_get ps n p d there)) has
     ]
 
--- what a request has made
+-- what an event has made
+pub grown-records : (state : State) (event : Event) (made : List Primitive) → made ≡ (came_of state event).made
+    → FitInTurn (after_event state event).editing.trail state.editing.loaded.text → IsText (text_of state.editing) → All HasLine made
+    → AllByRecursion HasRecord made
+grown-records state event made made_is fit whole has =
+    made-records state.editing.trail made (after_event state event).editing.trail state.editing.loaded.text
+    ((event_grows state event).trail ∙ ap (λ (ps : List Primitive). state.editing.trail ++ ps) (sym made_is)) fit whole has
+
+-- .. a request
 pub step-records : (state after : State) (request : Request) (answer : Reply) (made : List Primitive) → after ≡ after_event state (own request answer)
     → made ≡ (came_of state (own request answer)).made → FitInTurn after.editing.trail after.editing.loaded.text → IsText (text_of state.editing)
     → All HasLine made → AllByRecursion HasRecord made
 step-records state after request answer made is made_is fit whole has =
     let event : Event = own request answer in
-    made-records state.editing.trail made (after_event state event).editing.trail state.editing.loaded.text
-    ((event_grows state event).trail ∙ ap (λ (ps : List Primitive). state.editing.trail ++ ps) (sym made_is)) (fit-now state after event is fit) whole has
+    grown-records state event made made_is (fit-now state after event is fit) whole has
 
 -- a disk that tells goes on telling
 pub told-self : {T : Type 0} (moments : Option T) → IfSome moments (λ told. IsSome moments)

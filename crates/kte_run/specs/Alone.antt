@@ -1,58 +1,20 @@
--- A run of the editor alone: what it adds to a session, and what it must have for that. This
--- project's own rules.
-use Rattle.std.specs.Prelude.{◌≡◌, ℕ, ◌+◌, ◌-◌, ◌*◌, ◌<◌, ◌≤◌, ◌^◌, Bool, true, false, List, [], ◌∷◌, ◌++◌, length, All}
-use Rattle.kte_place.specs.Ends.{Ends}
+-- A run of the editor: what it adds to a session, and what it tells of the disk. This project's own
+-- rules.
+use Rattle.std.specs.Prelude.{◌≡◌, ℕ, ◌≤◌, Bool, true, false, List, [], ◌∷◌, ◌++◌, length, All, IfSome, IsSome}
+use Rattle.kte_swap.specs.Swap.{SwapView}
+use Rattle.kte_swap.specs.declared.causes.SwapState.TheVariants.{Guarded}
+use Rattle.kte_command.specs.Commands.{InRange}
 use Rattle.kte_command.specs.declared.command.Command.{Command}
-use Rattle.kte_find.specs.declared.found.TheConstants.{MAX_FINDINGS}
-use Rattle.kte_jobs.specs.declared.job.JobState.TheVariants.{Done}
+use Rattle.kte_script.specs.declared.TheConstants.{MAX_COMMANDS}
 use Rattle.kte_core.specs.State.{State}
-use Rattle.kte_core.specs.JobsInWords.{IsFree, count_waiting}
-use Rattle.kte_core.specs.Replay.{Session, Legal, IsLegal, after_event, present}
+use Rattle.kte_core.specs.Replay.{Session, Legal, after_event, beginning, present, replay}
 use Rattle.kte_core.specs.declared.event.Event.{Event}
-use Rattle.kte_core.specs.declared.reply.Reply.{Reply}
-use Rattle.kte_core.specs.declared.request.Request.TheVariants.{Deliver}
-use Rattle.kte_run.specs.Schedule.{Due, IsDue, NoneFailed, AllFit, InTurn, asked_for, asked_in, due_after, lost_by, nothing}
-use Rattle.kte_run.specs.Editor.{own}
-
--- nobody works on a job
-abbrev pub NoneTaken : State → Type 0
-NoneTaken state = (seat : ℕ) → IsFree state seat
-
--- Events that the editor alone may add to a state, whether the swap file is lost or not: each of
--- its requests is called for, in the end nothing is left to be told or delivered, and no call
--- outside is told to have failed
-pub record Alone (state : State) (events : List Event) : Type 0 where
-  pub legal : Legal state events
-  pub fit : AllFit 0 state events
-  pub in_turn : (lost : Bool) → InTurn state lost nothing events
-  pub went_well : NoneFailed events
-
--- There are numbers left for a job, for a transaction, and for so many ranges more
-pub record HasRoom (state : State) (more : ℕ) : Type 0 where
-  pub depth : state.editing.edits.depth < 2 ^ 32 - 1
-  pub jobs : length state.jobs < 2 ^ 32 - 1
-  pub ranges : state.next_id + more ≤ 2 ^ 63
-
--- there are numbers for what the jobs that wait find
-abbrev pub CanDrain : State → Type 0
-CanDrain state = HasRoom state (MAX_FINDINGS * count_waiting state)
-
--- the session is closed, and nobody works on a job
-pub record IsIdle (state : State) : Type 0 where
-  pub closed : state.closed ≡ true
-  pub none_taken : NoneTaken state
-
--- jobs are taken and delivered at once by the editor, and nothing else is added
-pub record Serves (before after : Session) : Type 0 where
-  pub added : List Event
-  pub events : after ≡ record before { events = before.events ++ added }
-  pub alone : Alone (present before) added
-  pub ordered : asked_in added ≡ []
-
--- .. until all are done
-pub record Drains (before after : Session) : Type 0 where
-  pub serves : Serves before after
-  pub done : All (λ job. job.state ≡ Done) (present after).jobs
+use Rattle.kte_desk.specs.Schedule.{Due, IsDue, AllFit, Schedule, asked_for, asked_in, due_after, lost_after, lost_by, nothing}
+use Rattle.kte_desk.specs.Serving.{CanDrain, IsIdle}
+use Rattle.kte_run.specs.declared.status.Status.{Status}
+use Rattle.kte_run.specs.Editor.{IsAt, Part, left}
+use Rattle.kte_run.specs.Outcomes.{Begins, Counted, Ended, IsEnding, Keeps, ReadsStay, failed_appends, failed_calls}
+use Rattle.kte_run.specs.Run.{Outer}
 
 -- what the editor's last event calls for, after some events more
 abbrev pub due_left : State → Due → List Event → Due
@@ -68,6 +30,17 @@ EachDue state lost due (event ∷ events) =
     × EachDue (after_event state event) (lost_by lost event.request)
     (due_after state due event) events
 
+-- The requests of a script so far, in the state after the events of a run, and the part with those
+-- that are left: each was due, and the part knows the state and owes what is due. Once it is closed,
+-- nothing is called for
+pub record Asking (commands : List Command) (first now : State) (events : List Event) (part : Part)
+    : Type 0 where
+  pub now_is : now ≡ replay first events
+  pub each_due : EachDue first false nothing events
+  pub ordered : asked_in events ++ left part ≡ asked_for commands
+  pub at : IsAt now (lost_after false events) (due_left first nothing events) part
+  pub shut : part.closed ≡ true → due_left first nothing events ≡ nothing
+
 -- the requests of a script with these commands were made, in order, each outcome was told, and the
 -- jobs can be done
 pub record Asks (commands : List Command) (before after : Session) : Type 0 where
@@ -81,12 +54,33 @@ pub record Asks (commands : List Command) (before after : Session) : Type 0 wher
   pub can : CanDrain (present after)
   pub idle : IsIdle (present after)
 
--- what is delivered of a job is added, which is what its rule finds
-pub record Delivers (job : ℕ) (before after : Session) : Type 0 where
-  pub findings : List Ends
-  pub reply : Reply
-  pub events : after ≡ record before {
-    events = before.events ++ own (Deliver job findings) reply ∷ [];
-  }
-  pub legal : IsLegal (present before) (own (Deliver job findings) reply)
-  pub few : length findings ≤ MAX_FINDINGS
+-- the commands of a script, in range, and the writer of an empty swap file
+pub record CanBegin (commands : List Command) (swap : SwapView) : Type 0 where
+  pub in_range : All InRange commands
+  pub few : length commands ≤ MAX_COMMANDS
+  pub guarded : swap.state ≡ Guarded
+
+-- What the events of a run tell of the disk, where it began in a state with this swap and ends so:
+-- how many calls failed, why it ends so, and what the disk holds, if the run began with its file
+pub record TellsDisk (ending : Status) (first : State) (events : List Event) (swap : SwapView)
+    (before after : Outer) : Type 0 where
+  pub counted : Counted (failed_appends events) (failed_calls false events) before.faults after.faults
+  pub ends : IsEnding ending events before.faults after.faults
+  pub ended : Ended ending before.faults after.faults
+  pub keeps : (file : List ℕ) → Begins file first.editing.loaded swap before.moments
+      → Keeps file first events after.moments
+
+-- The commands of a script were carried out in a session without events, with so many checkers: what
+-- was added to it, and what this tells of the disk, where the run ends so
+pub record CarriesOut (workers : ℕ) (commands : List Command) (swap : SwapView) (ending : Status)
+    (before after : Session) (disk later_disk : Outer) : Type 0 where
+  pub schedule : Schedule commands workers (beginning before.loaded before.limit) after.events
+  pub begun : after ≡ record before { events = after.events }
+  pub tells : TellsDisk ending (beginning before.loaded before.limit) after.events swap
+      disk later_disk
+
+-- no length was asked for, and nothing was read, with a fault, and a disk that tells what it holds
+-- goes on telling
+pub record GoesOn (before after : Outer) : Type 0 where
+  pub reads : ReadsStay before.faults after.faults
+  pub told : IfSome before.moments (λ _. IsSome after.moments)

@@ -1,6 +1,6 @@
 -- The editor's part in a run: which request comes next, what a reply tells it, and which calls of
 -- the disk follow. This project's own rules.
-use Rattle.std.specs.Prelude.{◌≡◌, ◌≢◌, ℕ, zero, suc, ◌==◌, Bool, true, false, List, [], ◌∷◌, ◌++◌, Option, Some, None, if◌then◌else◌}
+use Rattle.std.specs.Prelude.{◌≡◌, ◌≢◌, ℕ, zero, suc, ◌+◌, ◌*◌, ◌==◌, length, Bool, true, false, List, [], ◌∷◌, ◌++◌, Option, Some, None, if◌then◌else◌}
 use Rattle.kte_text.specs.declared.primitive.Primitive.{Primitive}
 use Rattle.kte_undo.specs.Steps.{redo_of}
 use Rattle.kte_swap.specs.Swap.{SwapView}
@@ -18,7 +18,7 @@ use Rattle.kte_core.specs.declared.request.OutsideCall.TheVariants as Call
 use Rattle.kte_core.specs.declared.request.Request.{Request}
 use Rattle.kte_core.specs.declared.request.Request.TheVariants.{Cmd, Close, Outcome}
 use Rattle.kte_run.specs.declared.editor.Told.{Told}
-use Rattle.kte_run.specs.Schedule.{Due, nothing, append, outcome, delivery, IsDue, asked_from, asked_in, due_after, lost_by}
+use Rattle.kte_desk.specs.Schedule.{Due, nothing, append, outcome, delivery, IsDue, asked_from, asked_in, due_after, lost_by}
 
 -- What the editor has before it: the commands that were not asked for, how many transactions are
 -- open, whether the session was closed, and whether memory ran out. Beside it, what it knows of the
@@ -30,7 +30,7 @@ pub record Part : Type 0 where
   pub failed : Bool
   -- the call outside that the last command asks for
   pub asking : Option OutsideCall
-  -- what came of the last call outside, until it is told
+  -- what came of the last call outside, which the core has not heard of yet
   pub owed : Option Told
   -- the primitives of the open transaction
   pub current : List Primitive
@@ -175,13 +175,32 @@ pub record Follows (state : State) (lost : Bool) (was_due : Due) (event : Event)
   pub at : IsAt (after_event state event) (lost_by lost event.request)
       (due_after state was_due event) after
 
--- an event of the editor
-abbrev pub own : Request → Reply → Event
-own request answer = record { seat = 0; request = request; reply = answer }
-
 -- a command, the close, or the outcome of a call outside
 abbrev pub IsOwn : Request → Type 0
 IsOwn (Cmd command) = Unit {0}
 IsOwn Close = Unit {0}
 IsOwn (Outcome call ok) = Unit {0}
 IsOwn _ = ⊥
+
+-- the part at first, with these commands and the writer of an empty swap file
+abbrev pub part_of : List Command → SwapView → Part
+part_of commands swap = record {
+  commands = commands;
+  depth = 0;
+  closed = false;
+  failed = false;
+  asking = None;
+  owed = None;
+  current = [];
+  swap = swap;
+  replace_failed = false;
+}
+
+-- how many outcomes are owed
+abbrev pub owed_count : Option Told → ℕ
+owed_count None = 0
+owed_count (Some told) = 1
+
+-- how many requests the editor may still make: each that is left may have an outcome
+abbrev pub work : Part → ℕ
+work part = 2 * length (left part) + owed_count part.owed

@@ -18,7 +18,7 @@ use Rattle.kte_run.specs.declared.status.Status.{Status}
 use Rattle.kte_run.specs.declared.status.Status.TheVariants as status
 use Rattle.kte_run.specs.Outcomes.{file_after, unsaved_after}
 use Rattle.kte_run.specs.Run.{start_of}
-use Rattle.kte_run.specs.Schedule.{NoneFailed, Schedule}
+use Rattle.kte_desk.specs.Schedule.{NoneFailed, Schedule}
 
 -- how many transactions count in an answer
 abbrev pub done_of : Answer → ℕ

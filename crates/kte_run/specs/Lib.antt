@@ -1,10 +1,14 @@
 pub mod Statuses
 pub mod Files
-pub mod Schedule
 pub mod Editor
 pub mod Calls
 pub mod Outcomes
 pub mod Alone
+pub mod Checked
 pub mod Run
+pub mod Edit
 pub mod Recover
 pub mod Generate
+pub mod Beside
+pub mod CheckerActs
+pub mod Crew

@@ -23,7 +23,7 @@ use Rattle.kte_core.specs.declared.request.Request.{Request}
 use Rattle.kte_core.specs.declared.request.Request.TheVariants.{Outcome}
 use Rattle.kte_run.specs.declared.status.Status.{Status}
 use Rattle.kte_run.specs.declared.status.Status.TheVariants as status
-use Rattle.kte_run.specs.Schedule.{lost_by, lost_after}
+use Rattle.kte_desk.specs.Schedule.{lost_by, lost_after}
 
 -- ---- how many calls failed
 

@@ -24,7 +24,7 @@ use Rattle.kte_run.specs.declared.TheConstants.{MAX_REVISIONS}
 use Rattle.kte_run.specs.declared.status.Status.{Status}
 use Rattle.kte_run.specs.declared.status.Status.TheVariants as status
 use Rattle.kte_run.specs.Statuses.{file_status, is_of_edit}
-use Rattle.kte_run.specs.Schedule.{NoneFailed, Schedule}
+use Rattle.kte_desk.specs.Schedule.{NoneFailed, Schedule}
 use Rattle.kte_run.specs.Outcomes.{Counted, IsEnding, Keeps, ReadsStay, failed_appends, failed_calls}
 
 -- the state at first
@@ -36,21 +36,25 @@ pub record Outer : Type 0 where
   pub faults : DiskCall → ℕ
   pub moments : Option (List Moment)
 
+-- .. each given by itself
+abbrev pub outer : Option (List Moment) → (DiskCall → ℕ) → Outer
+outer moments faults = record { faults = faults; moments = moments }
+
 -- What is printed for some commands after loading a file, by these events: they are the history of
--- a run with no workers beside the editor, and the output is their journal and the report of the
--- state after them
-pub record PrintsEvents (commands : List Command) (loaded : Loaded) (events : List Event) (output : List ℕ)
-    : Type 0 where
-  pub schedule : Schedule commands 0 (start_of loaded) events
+-- a run with so many checkers beside the editor, and the output is their journal and the report of
+-- the state after them
+pub record PrintsEvents (workers : ℕ) (commands : List Command) (loaded : Loaded)
+    (events : List Event) (output : List ℕ) : Type 0 where
+  pub schedule : Schedule commands workers (start_of loaded) events
   pub printed : output ≡ journal_text events ++ report (replay (start_of loaded) events)
 
 -- There is such a history, and it tells what came of each call of the disk: as many have failed as
 -- the counts rose by, at the most; the run ends so; and while the swap is not lost, the disk has
 -- all that was typed
-pub record Prints (commands : List Command) (file : List ℕ) (loaded : Loaded) (ending : Status)
-    (before after : Outer) (output : List ℕ) : Type 0 where
+pub record Prints (workers : ℕ) (commands : List Command) (file : List ℕ) (loaded : Loaded)
+    (ending : Status) (before after : Outer) (output : List ℕ) : Type 0 where
   pub events : List Event
-  pub prints : PrintsEvents commands loaded events output
+  pub prints : PrintsEvents workers commands loaded events output
   pub counted : Counted (failed_appends events) (failed_calls false events) before.faults after.faults
   pub ends : IsEnding ending events before.faults after.faults
   pub keeps : Keeps file (start_of loaded) events after.moments
@@ -61,22 +65,22 @@ IsLoadable file = (fault : LoadFault) → ¬ (Refuses file fault)
 
 -- What is printed for a script and a file: the script spells commands, the file is loaded, and the
 -- output is printed for them
-pub record Outputs (script file : List ℕ) (ending : Status) (before after : Outer) (output : List ℕ)
-    : Type 0 where
+pub record Outputs (workers : ℕ) (script file : List ℕ) (ending : Status) (before after : Outer)
+    (output : List ℕ) : Type 0 where
   pub commands : List Command
   pub spelled : script_of script ≡ Ok commands
   pub loaded : Loaded
   pub loads : Loads file loaded
-  pub prints : Prints commands file loaded ending before after output
+  pub prints : Prints workers commands file loaded ending before after output
 
--- .. by a history in which no call outside failed
+-- .. by a history with no checkers, in which no call outside failed
 pub record OutputsWell (script file output : List ℕ) : Type 0 where
   pub commands : List Command
   pub spelled : script_of script ≡ Ok commands
   pub loaded : Loaded
   pub loads : Loads file loaded
   pub events : List Event
-  pub prints : PrintsEvents commands loaded events output
+  pub prints : PrintsEvents 0 commands loaded events output
   pub well : NoneFailed events
 
 -- a count did not rise, and has not reached its last value, from which none rises
@@ -91,18 +95,18 @@ pub record CallsStay (before after : DiskCall → ℕ) : Type 0 where
   pub reset : DidNotRise (before Reset) (after Reset)
 
 -- what was written is the output for this script and this file, and the run ended so
-pub record Writes (script file : List ℕ) (ending : Status) (before after : Outer)
+pub record Writes (workers : ℕ) (script file : List ℕ) (ending : Status) (before after : Outer)
     (got now : Option (List ℕ)) : Type 0 where
   pub output : List ℕ
-  pub outputs : Outputs script file ending before after output
+  pub outputs : Outputs workers script file ending before after output
   pub gains : Appends got now output
 
 -- what was written is the first bytes of that output, however the run ended
-pub record WritesPrefix (script file : List ℕ) (before after : Outer) (got now : Option (List ℕ))
-    : Type 0 where
+pub record WritesPrefix (workers : ℕ) (script file : List ℕ) (before after : Outer)
+    (got now : Option (List ℕ)) : Type 0 where
   pub output : List ℕ
   pub ending : Status
-  pub outputs : Outputs script file ending before after output
+  pub outputs : Outputs workers script file ending before after output
   pub gains : AppendsPrefix got now output
 
 -- the script was read to its end without a fault, and spells commands
@@ -126,7 +130,7 @@ abbrev pub outside : Option (List ℕ) → ℕ → Option (List Moment) → (Dis
 outside left script_faults moments disk_faults got sink_faults = record {
   left = left;
   script_faults = script_faults;
-  disk = record { faults = disk_faults; moments = moments };
+  disk = outer moments disk_faults;
   got = got;
   sink_faults = sink_faults;
 }
@@ -156,12 +160,12 @@ abbrev pub DiskRose : (DiskCall → ℕ) → (DiskCall → ℕ) → Type 0
 DiskRose before after = Rose (before SwapLen) (after SwapLen) ⊎ LoadRose before after
 
 -- what was written is the whole output, where script and file are told, and the run ended so
-abbrev pub WasWritten : Outside → Outside → Status → Type 0
-WasWritten before after ending =
+abbrev pub WasWritten : ℕ → Outside → Outside → Status → Type 0
+WasWritten workers before after ending =
     WasRead before after × WasLoaded before.disk after.disk
     × (after.sink_faults ≡ before.sink_faults)
     × IfSome before.left (λ script. IfSome (saved_now before.disk.moments) (λ file.
-    Writes script file ending before.disk after.disk before.got after.got))
+    Writes workers script file ending before.disk after.disk before.got after.got))
 
 -- the disk failed before anything was written, and its files are as before
 pub record FailedBefore (before after : Outside) (sink_stays : Type 0) : Type 0 where
@@ -169,19 +173,19 @@ pub record FailedBefore (before after : Outside) (sink_stays : Type 0) : Type 0 
   pub files : FilesStay before.disk after.disk
   pub sink : sink_stays
 
--- What an edit does, of which the clauses of `edit_alone` say the same one by one. That the disk
--- and the sink stay says that nothing was asked of them
-pub record IsEdit (before after : Outside) (disk_stays sink_stays : Type 0) (given : Status)
-    : Type 0 where
+-- What an edit does, with so many checkers beside the editor. That the disk and the sink stay says
+-- that nothing was asked of them
+pub record IsEdit (workers : ℕ) (before after : Outside) (disk_stays sink_stays : Type 0)
+    (given : Status) : Type 0 where
   -- the whole output was written
-  pub ok : given ≡ status.Ok → WasWritten before after given
-  pub swap_lost : given ≡ status.SwapLost → WasWritten before after given
+  pub ok : given ≡ status.Ok → WasWritten workers before after given
+  pub swap_lost : given ≡ status.SwapLost → WasWritten workers before after given
   pub swap_lost_rose : given ≡ status.SwapLost
       → Rose (before.disk.faults Append) (after.disk.faults Append)
       ⊎ Rose (before.disk.faults Sync) (after.disk.faults Sync)
       ⊎ Rose (before.disk.faults Reset) (after.disk.faults Reset)
   pub disk_fault : given ≡ status.DiskFault → WasRead before after
-      × (FailedBefore before after sink_stays ⊎ WasWritten before after given)
+      × (FailedBefore before after sink_stays ⊎ WasWritten workers before after given)
   pub disk_fault_comes : (call : DiskCall) → Contains (SwapLen ∷ SavedLen ∷ SavedAt ∷ []) call
       → before.disk.faults call < after.disk.faults call → given ≡ status.DiskFault
   pub replace_fault_comes : before.disk.faults Replace < after.disk.faults Replace
@@ -226,7 +230,7 @@ pub record IsEdit (before after : Outside) (disk_stays sink_stays : Type 0) (giv
   pub prefix : (given ≡ status.WriteFault) ⊎ (given ≡ status.NoMemory)
       → IfSome before.left (λ script. IfSome (saved_now before.disk.moments) (λ file.
       (after.got ≡ before.got)
-      ⊎ WritesPrefix script file before.disk after.disk before.got after.got))
+      ⊎ WritesPrefix workers script file before.disk after.disk before.got after.got))
   -- with a script and a file of their forms and no swap file, only a fault or a lack of memory
   -- prevents status 0
   pub complete : IsSomeAnd before.left (λ bytes. IsOk (script_of bytes))

@@ -12,9 +12,10 @@ ghost use Rattle.kte_core.specs.Replay.{IsAnswered, after_event, came_of};
 ghost use Rattle.kte_core.specs.Requests.{IsAllowed};
 ghost use Rattle.kte_core.specs.declared.reply.Reply.TheVariants.{Asked};
 ghost use Rattle.kte_core.specs.declared.request.OutsideCall.TheVariants as call;
-ghost use Rattle.kte_run.specs.Editor.{Part, IsAt, IsOwn, IsTold, Follows, asked, call_after, call_of, current_after, current_before, depth_told, finished_after, finished_by, is_lost, lost_with, next_of, own};
+ghost use Rattle.kte_desk.specs.Serving.{own};
+ghost use Rattle.kte_run.specs.Editor.{Part, IsAt, IsOwn, IsTold, Follows, asked, call_after, call_of, current_after, current_before, depth_told, finished_after, finished_by, is_lost, lost_with, next_of};
 ghost use Rattle.kte_run.specs.Calls.{CountsTold, Leaves, SavedWith, file_told, is_saved, owed_by, told_of, transactions_told};
-ghost use Rattle.kte_run.specs.Schedule.{Due};
+ghost use Rattle.kte_desk.specs.Schedule.{Due};
 
 use crate::status::Status;
 use kte_causes::Disk;
@@ -41,7 +42,7 @@ pub(crate) struct Editor {
     has_failed: bool,
     // The call outside that the last command asks for.
     asking: Option<OutsideCall>,
-    // What came of the last call outside, until it is told.
+    // What came of the last call outside, which the core has not heard of yet.
     owed: Option<Told>,
     // The primitives of the open transaction, which go to the swap file when it is finished.
     current: Batch,
@@ -217,6 +218,20 @@ impl Editor {
                 Err(fail)
             }
         }
+    }
+
+    /// Hears that memory ran out: only the close is left.
+    pub(crate) fn fail(&mut self)
+        ensures { self.new ≡ record self.old { failed = true } }
+    {
+        self.has_failed = true;
+    }
+
+    /// Returns whether memory ran out.
+    pub(crate) fn has_failed(&self) -> bool
+        ensures { result ≡ self.now.failed }
+    {
+        self.has_failed
     }
 
     /// Returns how a run ends whose output was written.

@@ -20,9 +20,9 @@ use kte_find::PlainChecker;
 use kte_gen::make_script;
 use kte_recover::{RecoverFault, Recovered, recover};
 use kte_report::push_summary;
-use kte_script::read_script;
+use kte_script::{ScriptFault, read_script};
 use kte_swap::Swap;
-use kte_text::{digest, load};
+use kte_text::{LoadFault, digest, load};
 use std::alloc::{AllocError, Global};
 
 /// Makes a script of so many commands from a number, edits an empty text by it as [`edit_alone`]
@@ -53,8 +53,13 @@ fn summarised(alloc: Global, number: u64, count: u32) -> Result<Vec<u8>, AllocEr
     let commands = generated(alloc, number, count)?;
     let file: Vec<u8> = Vec::new(alloc);
     let mut disk = CalmDisk::new(Vec::new(alloc), Vec::new(alloc));
-    let Ok(loaded) = load(alloc, &file) else {
-        return Err(AllocError);
+    let loaded = match load(alloc, &file) {
+        Ok(loaded) => loaded,
+        Err(LoadFault::NoMemory) => return Err(AllocError),
+        // An empty file has no other fault.
+        Err(LoadFault::LongFile) => unreachable!(),
+        Err(LoadFault::NotUtf8 { .. }) => unreachable!(),
+        Err(LoadFault::TooLarge { .. }) => unreachable!(),
     };
     let swap = Swap::new(alloc, digest(&file));
     let mut core = Core::new(alloc, loaded, MAX_REVISIONS)?;
@@ -75,10 +80,13 @@ fn generated(alloc: Global, number: u64, count: u32) -> Result<Vec<Command>, All
     ensures in_range { IfOk result (λ commands. All InRange commands.items) }
 {
     let script = make_script(alloc, number, count)?;
-    // A generated script has no fault.
     match read_script(alloc, &script) {
         Ok(commands) => Ok(commands.into_commands()),
-        Err(_) => Err(AllocError),
+        Err(ScriptFault::NoMemory) => Err(AllocError),
+        // A generated script has no other fault.
+        Err(ScriptFault::Bad { .. }) => unreachable!(),
+        Err(ScriptFault::TooMany { .. }) => unreachable!(),
+        Err(ScriptFault::TooLong) => unreachable!(),
     }
 }
 

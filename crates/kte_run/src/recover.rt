@@ -4,7 +4,7 @@ ghost use Rattle.kte_causes.specs.DiskFaults.{AllStay};
 ghost use Rattle.kte_causes.specs.Moments.{AddsMoments, Staying, swap_now};
 ghost use Rattle.kte_causes.specs.declared.causes.DiskCall.TheVariants.{SwapAt, SwapLen};
 ghost use Rattle.kte_text.specs.Files.{Loads};
-ghost use Rattle.kte_run.specs.Run.{DiskRose, IsLoadable};
+ghost use Rattle.kte_run.specs.Run.{DiskRose, IsLoadable, outer};
 ghost use Rattle.kte_run.specs.Recover.{IfBoth, IsRecovery, Shows, Tells, has_text, is_answer};
 ghost use Rattle.kte_run.specs.Statuses.{is_of_length, is_unread, is_unwritten};
 
@@ -24,8 +24,8 @@ use std::alloc::Global;
 /// file has a text too, and its status comes after the text is written.
 pub fn recover_file<D: Disk, O: Sink>(alloc: Global, disk: &mut D, out: &mut O) -> Status
     ensures { IsRecovery
-        (record { faults = D.faults disk.old; moments = D.moments disk.old })
-        (record { faults = D.faults disk.new; moments = D.moments disk.new })
+        (outer (D.moments disk.old) (D.faults disk.old))
+        (outer (D.moments disk.new) (D.faults disk.new))
         (O.got out.old) (O.got out.new) (O.faults out.old) (O.faults out.new)
         (out.new ≡ out.old) result }
 {

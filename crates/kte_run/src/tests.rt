@@ -12,8 +12,11 @@ use kte_text::{Digest, MAX_FILE_LENGTH};
 use kte_words::Word;
 use std::alloc::{AllocError, Global};
 use std::process::Abort;
+use std::sync::Wait;
 use std::test::Fail;
+use std::thread::Threads;
 
+mod check;
 mod generate;
 mod swap;
 
@@ -47,7 +50,7 @@ fn ended(status: Status) -> Result<Status, Fail> {
 }
 
 /// Runs words over a script and a file in memory. Gives the status and the bytes written.
-fn outcome<R>(
+fn outcome<R: Threads + Wait + Sync>(
     rt: &R,
     alloc: Global,
     texts: &[&str],
@@ -90,14 +93,19 @@ fn shown(alloc: Global, written: &[u8]) -> Result<Vec<u8>, Fail> {
 }
 
 /// The status's code of `edit FILE`, and the replies and the text.
-fn edit<R>(rt: &R, alloc: Global, script: &[u8], file: &[u8]) -> Result<(u8, Vec<u8>), Fail> {
+fn edit<R: Threads + Wait + Sync>(
+    rt: &R,
+    alloc: Global,
+    script: &[u8],
+    file: &[u8],
+) -> Result<(u8, Vec<u8>), Fail> {
     let (status, written) = outcome(rt, alloc, &["edit", "file"], script, file)?;
     Ok((status.code(), shown(alloc, &written)?))
 }
 
 /// Asserts, for each file and script, the replies and the text.
 fn assert_shown(
-    rt: &impl Abort,
+    rt: &(impl Abort + Threads + Wait + Sync),
     alloc: Global,
     table: &[(&[u8], &[u8], &[u8])],
 ) -> Result<(), Fail> {
@@ -111,7 +119,7 @@ fn assert_shown(
 
 /// Asserts, for each file and script, all that is written.
 fn assert_written(
-    rt: &impl Abort,
+    rt: &(impl Abort + Threads + Wait + Sync),
     alloc: Global,
     table: &[(&[u8], &[u8], &[u8])],
 ) -> Result<(), Fail> {

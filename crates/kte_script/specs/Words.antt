@@ -1,4 +1,4 @@
--- The words of a line: what stands between its spaces. This project's own form
+-- The words of a line: what stands between its spaces. This project's own
 use Rattle.std.specs.Prelude.{◌==◌, ℕ, Bool, true, List, [], ◌∷◌, length, take, drop, nat_lt, nat_le, ◌&&◌, not, Option, Some, None, if◌then◌else◌}
 use Rattle.std.specs.List.{position_or_len, list_all}
 use Rattle.std.specs.Char.{is_ascii_digit}

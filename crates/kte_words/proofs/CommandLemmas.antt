@@ -6,13 +6,13 @@ use Rattle.std.proofs.lemmas.Result.{IfOk-at_ok}
 use Rattle.std.proofs.lemmas.Slice.Eq.{bytes_eq-Decides}
 use Rattle.std.specs.Str.{bytes_eq}
 use Rattle.kte_words.specs.Forms.{Part, Lead, AFile, ANumber, IsNumber, Are, Stops, number_at}
-use Rattle.kte_words.specs.Words.{Spells, IsCommand, BeginsCommand, FirstMisfit, file_of}
-use Rattle.kte_words.specs.declared.TheConstants.{MAX_COUNT}
+use Rattle.kte_words.specs.Words.{Spells, IsCommand, BeginsCommand, FirstMisfit, file_form, check_form, file_of}
+use Rattle.kte_words.specs.declared.TheConstants.{MAX_COUNT, MAX_WORKERS}
 use Rattle.kte_words.specs.declared.words.Words.{Words}
-use Rattle.kte_words.specs.declared.words.Words.TheVariants.{Edit, Recover, Gen}
+use Rattle.kte_words.specs.declared.words.Words.TheVariants.{Edit, Check, Recover, Gen}
 use Rattle.kte_words.specs.declared.parsing.BadWords.{BadWords}
 use Rattle.kte_words.proofs.MisfitLemmas.{misfit}
-use Rattle.kte_words.proofs.FormLemmas.{HaveWords, stops-within, stops-are, stops-before, stops-next, are-or-stop}
+use Rattle.kte_words.proofs.FormLemmas.{part-at, HaveWords, samples, stops-within, stops-are, stops-before, stops-next, are-or-stop}
 
 same : {A : Type 0} {a b : A} → Some a ≡ Some b → a ≡ b
 same {a = a} {b = b} is = same_Some a b is
@@ -23,25 +23,31 @@ same {a = a} {b = b} is = same_Some a b is
 abbrev command_of : List ℕ → List (List ℕ) → Option Words
 command_of word words =
     if bytes_eq word (codes "edit") then Some (Edit 1)
+    else if bytes_eq word (codes "check") then Some (Check (number_at (word ∷ words) 1) 2)
     else if bytes_eq word (codes "recover") then Some (Recover 1)
     else if bytes_eq word (codes "gen")
     then Some (Gen (number_at (word ∷ words) 1) (number_at (word ∷ words) 2))
     else None
 
+its-command : {lead word : List ℕ} (words : List (List ℕ)) (command : Words) → word ≡ lead
+    → command_of lead words ≡ Some command → command_of word words ≡ Some command
+its-command words command is its =
+    subst (λ one. command_of one words ≡ Some command) (sym is) its
+
 command-of : (word : List ℕ) (words : List (List ℕ)) (command : Words)
     → Spells (word ∷ words) command → command_of word words ≡ Some command
 command-of word words (Edit file) spelled =
-    subst (λ w. command_of w words ≡ Some (Edit file)) (sym spelled.0.0)
-    (ap (λ n. Some (Edit n)) (sym spelled.1))
+    its-command words (Edit file) spelled.0.0 (rw spelled.1 refl)
+command-of word words (Check workers file) spelled =
+    its-command words (Check workers file) spelled.0.0 (rw (spelled.1, spelled.2) refl)
 command-of word words (Recover file) spelled =
-    subst (λ w. command_of w words ≡ Some (Recover file)) (sym spelled.0.0)
-    (ap (λ n. Some (Recover n)) (sym spelled.1))
+    its-command words (Recover file) spelled.0.0 (rw spelled.1 refl)
 command-of word words (Gen number count) spelled =
-    subst (λ w. command_of w words ≡ Some (Gen number count)) (sym spelled.0.0)
-    (rw (spelled.1, spelled.2) refl)
+    its-command words (Gen number count) spelled.0.0 (rw (spelled.1, spelled.2) refl)
 
 no-words : (command : Words) → ¬ (Spells [] command)
 no-words (Edit file) spelled = spelled.0
+no-words (Check workers file) spelled = spelled.0
 no-words (Recover file) spelled = spelled.0
 no-words (Gen number count) spelled = spelled.0
 
@@ -64,20 +70,25 @@ exact-command words (Err bad) spelled first command = (
   (λ other. absurd (first.no_command (command, other))),
 )
 
+file-named : (parts : List Part) (words : List (List ℕ)) (at file : ℕ)
+    → slice_get parts at ≡ Some AFile → Are parts words → file ≡ at
+    → IsSomeAnd (slice_get words file) (λ name. name ≢ [])
+file-named parts words at file part are is =
+    let word = part-at parts words at AFile part are in
+    subst (λ index. IsSomeAnd (slice_get words index) (λ name. name ≢ [])) (sym is)
+    (subst (λ one. IsSomeAnd one (λ name. name ≢ [])) (sym word.0) word.1)
+
 -- the file of a command is a word that is not empty
 pub named-file : (words : List (List ℕ)) (command : Words) → Spells words command
     → IfSome (file_of command)
     (λ file. IsSomeAnd (slice_get words file) (λ name. name ≢ []))
-named-file [] command spelled = absurd (no-words command spelled)
-named-file (word ∷ []) (Edit file) spelled = absurd spelled.0.1
-named-file (word ∷ name ∷ words) (Edit file) spelled =
-    subst (λ at. IsSomeAnd (slice_get (word ∷ name ∷ words) at) (λ one. one ≢ []))
-    (sym spelled.1) spelled.0.1.0
-named-file (word ∷ []) (Recover file) spelled = absurd spelled.0.1
-named-file (word ∷ name ∷ words) (Recover file) spelled =
-    subst (λ at. IsSomeAnd (slice_get (word ∷ name ∷ words) at) (λ one. one ≢ []))
-    (sym spelled.1) spelled.0.1.0
-named-file (word ∷ words) (Gen number count) spelled = tt
+named-file words (Edit file) spelled =
+    file-named (file_form (codes "edit")) words 1 file refl spelled.0 spelled.1
+named-file words (Check workers file) spelled =
+    file-named check_form words 2 file refl spelled.0 spelled.2
+named-file words (Recover file) spelled =
+    file-named (file_form (codes "recover")) words 1 file refl spelled.0 spelled.1
+named-file words (Gen number count) spelled = tt
 
 -- ---- the forms of commands
 
@@ -88,22 +99,28 @@ pub record IsForm (lead : List ℕ) (parts : List Part) : Type 0 where
   pub only : (words : List (List ℕ)) → IsCommand (lead ∷ words)
       → Are (Lead lead ∷ parts) (lead ∷ words)
 
+-- words that begin with a command's word and are a command are the one that the word names
+its-words : (lead : List ℕ) (words : List (List ℕ)) (command : Words)
+    → command_of lead words ≡ Some command → IsCommand (lead ∷ words)
+    → Spells (lead ∷ words) command
+its-words lead words command its is =
+    subst (Spells (lead ∷ words)) (same (sym (command-of lead words is.0 is.1) ∙ its)) is.1
+
+a-file : (word : List ℕ) × (word ≢ [])
+a-file = (codes "f", (λ is. omega (arith, ap length is)))
+
 pub edit-form : IsForm (codes "edit") (AFile ∷ [])
 edit-form = record {
-  have = ((codes "f", (λ is. omega (arith, ap length is))), tt);
+  have = (a-file, tt);
   make = λ words are. (Edit 1, (are, refl));
-  only = λ words is.
-      (subst (Spells (codes "edit" ∷ words))
-      (sym (same (command-of (codes "edit") words is.0 is.1))) is.1).0;
+  only = λ words is. (its-words (codes "edit") words (Edit 1) refl is).0;
 }
 
 pub recover-form : IsForm (codes "recover") (AFile ∷ [])
 recover-form = record {
-  have = edit-form.have;
+  have = (a-file, tt);
   make = λ words are. (Recover 1, (are, refl));
-  only = λ words is.
-      (subst (Spells (codes "recover" ∷ words))
-      (sym (same (command-of (codes "recover") words is.0 is.1))) is.1).0;
+  only = λ words is. (its-words (codes "recover") words (Recover 1) refl is).0;
 }
 
 is-one : (least most : ℕ) → least ≤ 1 → 1 ≤ most → IsNumber least most (codes "1")
@@ -114,26 +131,33 @@ is-one least most below above = record {
   at_most = above;
 }
 
+a-number : (least most : ℕ) → least ≤ 1 → 1 ≤ most → (word : List ℕ) × IsNumber least most word
+a-number least most below above = (codes "1", is-one least most below above)
+
+pub check-form : IsForm (codes "check") (ANumber 1 MAX_WORKERS ∷ AFile ∷ [])
+check-form = record {
+  have = (a-number 1 MAX_WORKERS (omega arith) (omega arith), (a-file, tt));
+  make = λ words are. (Check (number_at words 1) 2, (are, refl, refl));
+  only = λ words is.
+      (its-words (codes "check") words (Check (number_at (codes "check" ∷ words) 1) 2) refl is).0;
+}
+
 pub gen-form : IsForm (codes "gen") (ANumber 0 (2 ^ 64 - 1) ∷ ANumber 1 MAX_COUNT ∷ [])
 gen-form = record {
   have = (
-    (codes "1", is-one 0 (2 ^ 64 - 1) (omega arith) (omega arith)),
-    ((codes "1", is-one 1 MAX_COUNT (omega arith) (omega arith)), tt),
+    a-number 0 (2 ^ 64 - 1) (omega arith) (omega arith),
+    (a-number 1 MAX_COUNT (omega arith) (omega arith), tt),
   );
   make = λ words are. (Gen (number_at words 1) (number_at words 2), (are, refl, refl));
   only = λ words is.
-      (subst (Spells (codes "gen" ∷ words))
-      (sym (same (command-of (codes "gen") words is.0 is.1))) is.1).0;
+      let all = codes "gen" ∷ words in
+      (its-words (codes "gen") words (Gen (number_at all 1) (number_at all 2)) refl is).0;
 }
-
-abbrev a_command : List (List ℕ)
-a_command = codes "edit" ∷ codes "f" ∷ []
 
 begins-nothing : BeginsCommand []
-begins-nothing = record {
-  more = a_command;
-  whole = edit-form.make a_command (refl, ((λ is. omega (arith, ap length is)), tt));
-}
+begins-nothing =
+    let edit = samples (Lead (codes "edit") ∷ AFile ∷ []) ((codes "edit", refl), edit-form.have) in
+    record { more = edit.0; whole = edit-form.make edit.0 edit.1 }
 
 next-is : (at : ℕ) → suc at + 1 ≡ suc (suc at)
 next-is at = omega arith
@@ -191,15 +215,17 @@ unlike word lead other =
 -- no command's word
 pub record NoLead (word : List ℕ) : Type 0 where
   pub edit : word ≢ codes "edit"
+  pub check : word ≢ codes "check"
   pub recover : word ≢ codes "recover"
   pub gen : word ≢ codes "gen"
 
 unnamed : (word : List ℕ) (words : List (List ℕ)) → NoLead word → command_of word words ≡ None
 unnamed word words other =
     let edit_no = unlike word (codes "edit") other.edit in
+    let check_no = unlike word (codes "check") other.check in
     let recover_no = unlike word (codes "recover") other.recover in
     let gen_no = unlike word (codes "gen") other.gen in
-    rw edit_no (rw recover_no (rw gen_no refl))
+    rw edit_no (rw check_no (rw recover_no (rw gen_no refl)))
 
 other-word : (word : List ℕ) (words : List (List ℕ)) → NoLead word → FirstMisfit (word ∷ words) 0
 other-word word words other =
@@ -231,8 +257,14 @@ read [] = inr (0, no-word [] refl)
 read (word ∷ words) =
     by-lead word (codes "edit")
     (λ is. read-form _ _ edit-form word words is)
-    (λ edit. by-lead word (codes "recover")
+    (λ edit. by-lead word (codes "check")
+    (λ is. read-form _ _ check-form word words is)
+    (λ check. by-lead word (codes "recover")
     (λ is. read-form _ _ recover-form word words is)
     (λ recover. by-lead word (codes "gen")
     (λ is. read-form _ _ gen-form word words is)
-    (λ gen. inr (0, other-word word words (record { edit = edit; recover = recover; gen = gen })))))
+    (λ gen. inr (
+      0,
+      other-word word words
+          (record { edit = edit; check = check; recover = recover; gen = gen }),
+    )))))

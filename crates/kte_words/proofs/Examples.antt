@@ -1,11 +1,11 @@
 -- Worked examples of the definitions.
-use Rattle.std.proofs.Common.{◌≡◌, ◌≢◌, ◌≤◌, ◌-◌, ◌^◌, ℕ, List, [], ◌∷◌, length, Some, None, codes, refl, ap, arith, rules}
+use Rattle.std.proofs.Common.{◌≡◌, ◌≢◌, ◌≤◌, ◌-◌, ◌^◌, ℕ, List, [], ◌∷◌, length, get_or, Some, None, codes, refl, ap, arith, rules}
 use Rattle.std.specs.Str.Parse.{IsNumeral, digits_value}
 use Rattle.kte_words.specs.Forms.{IsNumber}
 use Rattle.kte_words.specs.Words.{Spells, FirstMisfit, file_of}
-use Rattle.kte_words.specs.declared.TheConstants.{MAX_COUNT, MAX_DIGITS}
-use Rattle.kte_words.specs.declared.words.Words.TheVariants.{Edit, Recover, Gen}
-use Rattle.kte_words.proofs.CommandLemmas.{form-stopped, edit-form, recover-form, gen-form, no-command, no-word}
+use Rattle.kte_words.specs.declared.TheConstants.{MAX_COUNT, MAX_DIGITS, MAX_WORKERS}
+use Rattle.kte_words.specs.declared.words.Words.TheVariants.{Edit, Check, Recover, Gen}
+use Rattle.kte_words.proofs.CommandLemmas.{form-stopped, edit-form, check-form, recover-form, gen-form, no-command, no-word}
 
 abbrev a : List ℕ
 a = codes "a"
@@ -36,13 +36,18 @@ nothing = no-word [] refl
 empty_word : FirstMisfit ([] ∷ []) 0
 empty_word = no-command [] ([] ∷ []) refl (record {
   edit = λ is. omega (arith, ap length is);
+  check = λ is. omega (arith, ap length is);
   recover = λ is. omega (arith, ap length is);
   gen = λ is. omega (arith, ap length is);
 })
 
+abbrev first_byte : List ℕ → ℕ
+first_byte word = get_or word 0 0
+
 longer_word : FirstMisfit (codes "edits" ∷ a ∷ []) 0
 longer_word = no-command (codes "edits") (codes "edits" ∷ a ∷ []) refl (record {
   edit = λ is. omega (arith, ap length is);
+  check = λ is. omega (arith, ap first_byte is);
   recover = λ is. omega (arith, ap length is);
   gen = λ is. omega (arith, ap length is);
 })
@@ -145,3 +150,60 @@ one_word_more : FirstMisfit (codes "gen" ∷ codes "7" ∷ codes "1" ∷ codes "
 one_word_more =
     form-stopped _ _ gen-form (codes "gen" ∷ codes "7" ∷ codes "1" ∷ codes "x" ∷ []) 3 refl
     (refl, (seven, (one, refl)))
+
+-- ---- checkers
+
+three : IsNumber 1 MAX_WORKERS (codes "3")
+three = number _ _ _ (search rules) (omega arith) (omega arith) (omega arith)
+
+checks : Spells (codes "check" ∷ codes "3" ∷ a ∷ []) (Check 3 2)
+checks = ((refl, (three, (a-named, tt))), refl, refl)
+
+checked_file : file_of (Check 3 2) ≡ Some 2
+checked_file = refl
+
+-- the most checkers, zeros in front, and a file with the command's own name
+most_workers : IsNumber 1 MAX_WORKERS (codes "00000000000000000016")
+most_workers = number _ _ _ (search rules) (omega arith) (omega arith) (omega arith)
+
+checks_most : Spells (codes "check" ∷ codes "00000000000000000016" ∷ codes "check" ∷ []) (Check 16 2)
+checks_most = ((refl, (most_workers, ((λ is. omega (arith, ap length is)), tt))), refl, refl)
+
+-- no number, 0, one checker too many, a sign, and a letter after a digit
+workers_missing : FirstMisfit (codes "check" ∷ []) 1
+workers_missing = form-stopped _ _ check-form (codes "check" ∷ []) 1 refl (refl, refl)
+
+no_workers : FirstMisfit (codes "check" ∷ codes "0" ∷ a ∷ []) 1
+no_workers =
+    form-stopped _ _ check-form (codes "check" ∷ codes "0" ∷ a ∷ []) 1 refl
+    (refl, (λ is. omega (arith, is.at_least)))
+
+too_many_workers : FirstMisfit (codes "check" ∷ codes "17" ∷ a ∷ []) 1
+too_many_workers =
+    form-stopped _ _ check-form (codes "check" ∷ codes "17" ∷ a ∷ []) 1 refl
+    (refl, (λ is. omega (arith, is.at_most)))
+
+signed_workers : FirstMisfit (codes "check" ∷ codes "-1" ∷ a ∷ []) 1
+signed_workers =
+    form-stopped _ _ check-form (codes "check" ∷ codes "-1" ∷ a ∷ []) 1 refl
+    (refl, (λ is. omega (arith, is.digits.1.0)))
+
+letter_after_digit : FirstMisfit (codes "check" ∷ codes "1x" ∷ a ∷ []) 1
+letter_after_digit =
+    form-stopped _ _ check-form (codes "check" ∷ codes "1x" ∷ a ∷ []) 1 refl
+    (refl, (λ is. omega (arith, is.digits.1.1.0)))
+
+-- a missing file, an empty one, and a word too many
+checked_file_missing : FirstMisfit (codes "check" ∷ codes "3" ∷ []) 2
+checked_file_missing =
+    form-stopped _ _ check-form (codes "check" ∷ codes "3" ∷ []) 2 refl (refl, (three, refl))
+
+checked_file_empty : FirstMisfit (codes "check" ∷ codes "3" ∷ [] ∷ []) 2
+checked_file_empty =
+    form-stopped _ _ check-form (codes "check" ∷ codes "3" ∷ [] ∷ []) 2 refl
+    (refl, (three, (λ named. named refl)))
+
+checked_word_more : FirstMisfit (codes "check" ∷ codes "3" ∷ a ∷ codes "b" ∷ []) 3
+checked_word_more =
+    form-stopped _ _ check-form (codes "check" ∷ codes "3" ∷ a ∷ codes "b" ∷ []) 3 refl
+    (refl, (three, (a-named, refl)))

@@ -1,12 +1,26 @@
 -- Words and the parts of a form.
-use Rattle.std.proofs.Common.{◌⊎◌, ⊎_elim, inl, inr, ℕ, zero, suc, ◌<◌, ◌≤◌, List, [], ◌∷◌, ◌++◌, length, take, subst, sym, refl, ap, arith}
-use Rattle.std.proofs.lemmas.Bool.{cases_Bool, cases_lt, iff_false}
+use Rattle.std.proofs.Common.{◌≡◌, ◌⊎◌, ⊎_elim, inl, inr, ℕ, zero, suc, ◌<◌, ◌≤◌, List, [], ◌∷◌, ◌++◌, length, take, get_or, slice_get, Some, is_some, subst, sym, refl, ap, arith}
+use Rattle.std.proofs.lemmas.Bool.{cases_Bool, cases_lt, iff_false, false≢true}
+use Rattle.std.proofs.lemmas.Option.{same_Some}
 use Rattle.std.proofs.lemmas.Slice.Eq.{bytes_eq-Decides}
 use Rattle.std.specs.Char.{digit_value}
 use Rattle.std.specs.Str.{bytes_eq}
 use Rattle.std.specs.Str.Parse.{AllDigits, digits_value}
 use Rattle.kte_words.specs.Forms.{Part, Lead, AFile, ANumber, IsNumber, Is, Are, Stops}
 use Rattle.kte_words.specs.declared.TheConstants.{MAX_DIGITS}
+
+-- ---- the word of a part
+
+-- words that are the parts of a form have a word for this part, which is at the part's index
+pub part-at : (parts : List Part) (words : List (List ℕ)) (at : ℕ) (part : Part)
+    → slice_get parts at ≡ Some part → Are parts words
+    → (slice_get words at ≡ Some (get_or words at [])) × Is part (get_or words at [])
+part-at [] words at part is are = absurd (false≢true (ap is_some is))
+part-at (first ∷ parts) [] at part is are = absurd are
+part-at (first ∷ parts) (word ∷ words) zero part is are =
+    (refl, subst (λ one. Is one word) (same_Some first part is) are.0)
+part-at (first ∷ parts) (word ∷ words) (suc at) part is are =
+    part-at parts words at part is are.1
 
 -- ---- parts that have words
 
@@ -15,7 +29,7 @@ abbrev pub HaveWords : List Part → Type 0
 HaveWords [] = Unit {0}
 HaveWords (part ∷ parts) = ((word : List ℕ) × Is part word) × HaveWords parts
 
-samples : (parts : List Part) → HaveWords parts → (words : List (List ℕ)) × Are parts words
+pub samples : (parts : List Part) → HaveWords parts → (words : List (List ℕ)) × Are parts words
 samples [] have = ([], tt)
 samples (part ∷ parts) have =
     let others = samples parts have.1 in (have.0.0 ∷ others.0, (have.0.1, others.1))

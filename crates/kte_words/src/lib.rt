@@ -26,5 +26,8 @@ pub use words::Words;
 /// The most digits of a number, zeros in front included.
 pub const MAX_DIGITS: usize = 20;
 
+/// The most checkers of `check`.
+pub const MAX_WORKERS: u32 = 16;
+
 /// The greatest count of `gen`: the most commands of a script.
 pub const MAX_COUNT: u32 = 100_000;

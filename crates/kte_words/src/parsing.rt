@@ -4,11 +4,11 @@ ghost use Rattle.std.specs.Char.{is_ascii_digit};
 ghost use Rattle.std.specs.Str.Parse.{digits_value};
 ghost use Rattle.kte_words.specs.Forms.{IsNumber, Stops, number_at};
 ghost use Rattle.kte_words.specs.declared.TheConstants.{MAX_DIGITS};
-ghost use Rattle.kte_words.specs.Words.{Spells, SpellsFile, SpellsGen, FirstMisfit, file_form, gen_form, file_of};
+ghost use Rattle.kte_words.specs.Words.{Spells, SpellsFile, SpellsCheck, SpellsGen, FirstMisfit, file_form, check_form, gen_form, file_of};
 
 use crate::word::Word;
 use crate::words::Words;
-use crate::{MAX_COUNT, MAX_DIGITS};
+use crate::{MAX_COUNT, MAX_DIGITS, MAX_WORKERS};
 use thiserror::Error;
 
 /// Why words are no command of the program.
@@ -20,11 +20,12 @@ pub struct BadWords {
     pub at: u32,
 }
 
-/// Returns the command that the words are: `edit FILE`, `recover FILE` or `gen NUMBER COUNT`.
-/// `FILE` is any word that is not empty, `NUMBER` a number of 64 bits and `COUNT` a number from 1
-/// to [`MAX_COUNT`]; numbers are 1 to [`MAX_DIGITS`] decimal digits. The words are the arguments of
-/// the program, without its name. Fails if they are no command, with the index of the first word
-/// that does not fit.
+/// Returns the command that the words are: `edit FILE`, `check N FILE`, `recover FILE` or
+/// `gen NUMBER COUNT`. `FILE` is any word that is not empty, `N` a number from 1 to
+/// [`MAX_WORKERS`], `NUMBER` a number of 64 bits and `COUNT` a number from 1 to [`MAX_COUNT`];
+/// numbers are 1 to [`MAX_DIGITS`] decimal digits. The words are the arguments of the program,
+/// without its name. Fails if they are no command, with the index of the first word that does not
+/// fit.
 pub fn parse(words: &[Word]) -> Result<Words, BadWords>
     ensures command { (command : _) → (result ≡ Ok command) ↔ Spells words.now command }
     ensures misfit { (bad : _) → (result ≡ Err bad) ↔ FirstMisfit words.now bad.at }
@@ -48,6 +49,10 @@ fn named(name: &str, words: &[Word]) -> Result<Words, BadWords>
         "edit" => Ok(Words::Edit {
             file: file_alone(words)?,
         }),
+        "check" => {
+            let (workers, file) = workers_and_file(words)?;
+            Ok(Words::Check { workers, file })
+        }
         "recover" => Ok(Words::Recover {
             file: file_alone(words)?,
         }),
@@ -70,6 +75,19 @@ fn file_alone(words: &[Word]) -> Result<u32, BadWords>
     let file = file_at(words, 1)?;
     end_at(words, 2)?;
     Ok(file)
+}
+
+/// Returns the number of checkers of the words of `check`, and the index of the word that names the
+/// file.
+fn workers_and_file(words: &[Word]) -> Result<(u32, u32), BadWords>
+    requires { slice_get words.now 0 ≡ Some (codes "check") }
+    ensures ok { IfOk result (λ both. SpellsCheck words.now both.0 both.1) }
+    ensures err { IfErr result (λ bad. Stops check_form words.now bad.at) }
+{
+    let workers = number_at(words, 1, 1, u64::from(MAX_WORKERS))?;
+    let file = file_at(words, 2)?;
+    end_at(words, 3)?;
+    Ok((workers as u32, file))
 }
 
 /// Returns the number and the count of the words of `gen`.

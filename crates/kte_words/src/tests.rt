@@ -92,6 +92,51 @@ fn numbers_are_read(rt: HostRuntime) -> Result<(), Fail> {
 }
 
 #[test]
+fn checkers_are_read(rt: HostRuntime) -> Result<(), Fail> {
+    let alloc = rt.alloc();
+    let table: [(&[&str], Result<Words, BadWords>); 16] = [
+        (
+            &["check", "1", "notes.txt"],
+            Ok(Words::Check {
+                workers: 1,
+                file: 2,
+            }),
+        ),
+        (
+            &["check", "00000000000000000016", "check"],
+            Ok(Words::Check {
+                workers: 16,
+                file: 2,
+            }),
+        ),
+        (&["check"], Err(BadWords { at: 1 })),
+        (&["check", "", "notes.txt"], Err(BadWords { at: 1 })),
+        (&["check", "0", "notes.txt"], Err(BadWords { at: 1 })),
+        (&["check", "17", "notes.txt"], Err(BadWords { at: 1 })),
+        (&["check", "-1", "notes.txt"], Err(BadWords { at: 1 })),
+        (&["check", "1x", "notes.txt"], Err(BadWords { at: 1 })),
+        (&["check", "notes.txt"], Err(BadWords { at: 1 })),
+        (
+            &["check", "4294967297", "notes.txt"],
+            Err(BadWords { at: 1 }),
+        ),
+        (
+            &["check", "000000000000000000003", "notes.txt"],
+            Err(BadWords { at: 1 }),
+        ),
+        (&["check", "3"], Err(BadWords { at: 2 })),
+        (&["check", "3", ""], Err(BadWords { at: 2 })),
+        (&["check", "3", "", "notes.txt"], Err(BadWords { at: 2 })),
+        (&["check", "3", "notes.txt", ""], Err(BadWords { at: 3 })),
+        (&["Check", "3", "notes.txt"], Err(BadWords { at: 0 })),
+    ];
+    for (texts, want) in table {
+        assert_eq!(rt; read(alloc, texts)?, want);
+    }
+    Ok(())
+}
+
+#[test]
 fn the_file_is_a_word(rt: HostRuntime) -> Result<(), Fail> {
     let alloc = rt.alloc();
     for name in ["edit", "recover"] {
@@ -103,6 +148,11 @@ fn the_file_is_a_word(rt: HostRuntime) -> Result<(), Fail> {
         assert_eq!(rt; file, Some(1));
         assert_eq!(rt; words[1].as_str(), "notes.txt");
     }
+    let checked = Words::Check {
+        workers: 3,
+        file: 2,
+    };
+    assert_eq!(rt; checked.file(), Some(2));
     let script = Words::Gen {
         number: 0,
         count: 1,

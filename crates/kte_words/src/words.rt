@@ -9,6 +9,13 @@ pub enum Words {
         /// The index, from 0, of the word that names the file.
         file: u32,
     },
+    /// `check N FILE`: edits the text of a file, while N checkers beside the editor do the checks.
+    Check {
+        /// The number of checkers, from 1 to [`MAX_WORKERS`](crate::MAX_WORKERS).
+        workers: u32,
+        /// The index, from 0, of the word that names the file.
+        file: u32,
+    },
     /// `recover FILE`: prints the text that a file and the swap file beside it recover to.
     Recover {
         /// The index, from 0, of the word that names the file.
@@ -30,7 +37,9 @@ impl Words {
         ensures { result ≡ file_of self.now }
     {
         match self {
-            Words::Edit { file } | Words::Recover { file } => Some(*file),
+            Words::Edit { file } | Words::Check { file, .. } | Words::Recover { file } => {
+                Some(*file)
+            }
             Words::Gen { .. } => None,
         }
     }

@@ -17,8 +17,37 @@ use std::process::ExitCode;
 const FIRST_ROOM: usize = 256;
 
 fn main(rt: HostRuntime) -> ExitCode {
+    let alloc = rt.alloc();
+    let mut script = StdSource::new(rt.reader());
+    let mut out = StdSink::new(io::writer(&rt));
     let status = match words(&rt) {
-        Ok(words) => run_words(&rt, &words),
+        Ok(words) => match file_named(&words) {
+            Some(file) => {
+                let mut disk = FileDisk::new(alloc, &rt, file);
+                run(
+                    &rt,
+                    alloc,
+                    &words,
+                    &mut script,
+                    &mut disk,
+                    &mut out,
+                    &PlainChecker,
+                )
+            }
+            // If the words are no command, no file is touched.
+            None => {
+                let mut disk = CalmDisk::new(Vec::new(alloc), Vec::new(alloc));
+                run(
+                    &rt,
+                    alloc,
+                    &words,
+                    &mut script,
+                    &mut disk,
+                    &mut out,
+                    &PlainChecker,
+                )
+            }
+        },
         Err(AllocError) => Status::NoMemory,
     };
     report(&rt, status);
@@ -56,39 +85,10 @@ fn word(rt: &(impl Env + Alloc<A = Global>), n: usize) -> Result<Option<Word>, A
     Err(AllocError)
 }
 
-/// Runs the words over the real streams, and over the file that they name. If they are no command,
-/// no file is touched.
-fn run_words(rt: &HostRuntime, words: &[Word]) -> Status {
-    let alloc = rt.alloc();
-    let mut script = StdSource::new(rt.reader());
-    let mut out = StdSink::new(io::writer(rt));
-    let file = parse(words).ok().and_then(|command| command.file());
-    match file.and_then(|at| words.get(at as usize)) {
-        Some(file) => {
-            let mut disk = FileDisk::new(alloc, rt, file.as_str());
-            run(
-                rt,
-                alloc,
-                words,
-                &mut script,
-                &mut disk,
-                &mut out,
-                &PlainChecker,
-            )
-        }
-        None => {
-            let mut disk = CalmDisk::new(Vec::new(alloc), Vec::new(alloc));
-            run(
-                rt,
-                alloc,
-                words,
-                &mut script,
-                &mut disk,
-                &mut out,
-                &PlainChecker,
-            )
-        }
-    }
+/// Returns the name of the file of the command that the words are, if they are one and it has a file.
+fn file_named(words: &[Word]) -> Option<&str> {
+    let file = parse(words).ok()?.file()?;
+    Some(words.get(file as usize)?.as_str())
 }
 
 /// Writes the line of the status on standard error.

@@ -1,6 +1,7 @@
 use Rattle.std.proofs.Common.{◌-◌, ◌∙◌, sym}
 use Rattle.kte_core.specs.Replay.{present}
-use Rattle.kte_report.proofs.HiddenLemmas.{tree_shown, none_shown, same_number}
+use Rattle.kte_core.proofs.FoldMapLemmas.{tree_shown}
+use Rattle.kte_report.proofs.HiddenLemmas.{none_shown, same_number}
 use Rattle.kte_report.proofs.hidden.hides_nothing.Goals as goal
 
 pub visible_of-requires : goal.visible_of-requires

@@ -1,6 +1,7 @@
 use Rattle.std.proofs.Common.{◌∙◌}
 use Rattle.kte_core.specs.Replay.{present}
-use Rattle.kte_report.proofs.HiddenLemmas.{tree_shown, hidden_alike}
+use Rattle.kte_core.proofs.FoldMapLemmas.{tree_shown}
+use Rattle.kte_report.proofs.HiddenLemmas.{hidden_alike}
 use Rattle.kte_report.proofs.hidden.is_hidden.Goals as goal
 
 pub hidden-requires : goal.hidden-requires

@@ -4,7 +4,8 @@ use Rattle.kte_text.specs.Texts.{IsText}
 use Rattle.kte_core.specs.Editing.{text_of}
 use Rattle.kte_core.specs.Replay.{present}
 use Rattle.kte_run.specs.Outcomes.{Begins}
-use Rattle.kte_run.proofs.AskLemmas.{Asking, first_state, work}
+use Rattle.kte_run.proofs.AskLemmas.{AskingAlone, first_state}
+use Rattle.kte_run.specs.Editor.{work}
 use Rattle.kte_run.proofs.CountLemmas.{Counting}
 use Rattle.kte_run.proofs.KeepLemmas.{Keeping}
 use Rattle.kte_run.proofs.alone.ask_all.Given as goal
@@ -13,7 +14,7 @@ use Rattle.kte_run.proofs.alone.ask_all.Given as goal
 -- the events tell
 abbrev pub invariant-loop-request : goal.invariant-loop-request
 invariant-loop-request g l =
-    Asking l.fn.commands.items l.fn.core l.core l.editor
+    AskingAlone l.fn.commands.items l.fn.core l.core l.editor
     × Counting l.core.events l.editor (g.D.Disk.faults l.fn.disk) (g.D.Disk.faults l.disk)
     × IsText (text_of (present l.core).editing)
     × IfSome (g.D.Disk.moments l.fn.disk) (λ told. IsSome (g.D.Disk.moments l.disk))

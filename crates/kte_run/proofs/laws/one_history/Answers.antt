@@ -1,6 +1,3 @@
-use Rattle.kte_run.proofs.Examples.{swap_codes}
-use Rattle.kte_run.proofs.ScheduleExamples.{open_levels}
-use Rattle.kte_run.proofs.OutcomeExamples.{one_failed}
 use Rattle.kte_run.proofs.OneHistory.{one_schedule}
 use Rattle.kte_run.proofs.laws.one_history.Goals as goal
 

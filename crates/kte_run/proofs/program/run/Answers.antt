@@ -1,10 +1,12 @@
-use Rattle.std.proofs.Common.{◌≡◌, ℕ, refl, ap, subst}
+use Rattle.std.proofs.Common.{◌≡◌, ◌≤◌, ℕ, refl, ap, subst, rules}
 use Rattle.kte_words.specs.Words.{FirstMisfit}
+use Rattle.kte_words.specs.declared.TheConstants.{MAX_WORKERS}
 use Rattle.kte_words.specs.declared.words.Words.TheVariants as command
 use Rattle.kte_words.specs.declared.parsing.BadWords.{BadWords}
-use Rattle.kte_words.proofs.CallerLemmas.{count-within}
+use Rattle.kte_words.proofs.CallerLemmas.{count-within, workers-within}
 use Rattle.kte_run.specs.declared.status.Status.TheVariants as status
 use Rattle.kte_run.specs.Generate.{IsGeneration}
+use Rattle.kte_run.specs.Run.{IsEdit, outside}
 use Rattle.kte_run.proofs.program.run.Goals as goal
 
 pub returns-in-Err-clause-bad_words : goal.returns-in-Err-clause-bad_words
@@ -85,4 +87,60 @@ returns-in-Ok-Recover-clause-generate g c = λ number count spells.
 pub returns-in-Err-clause-generate : goal.returns-in-Err-clause-generate
 returns-in-Err-clause-generate g c = λ number count spells.
     let other = (c.parse.ensures.command (command.Gen number count)).1 spells in
+    absurd (cc (c.in-Err.is, other))
+
+pub edit_checked-requires-clause-some : goal.edit_checked-requires-clause-some
+edit_checked-requires-clause-some g c =
+    let spells = (c.parse.ensures.command (command.Check c.in-Ok-Check.workers c.in-Ok-Check.field-0-1)).0 (cc (c.in-Ok-Check.is, c.in-Ok-Check.field-0-is)) in
+    let within : 1 ≤ c.in-Ok-Check.workers = (workers-within c.args.words.now c.in-Ok-Check.workers c.in-Ok-Check.field-0-1 spells).0 in
+    search (rules, within)
+
+pub edit_checked-requires-clause-most : goal.edit_checked-requires-clause-most
+edit_checked-requires-clause-most g c =
+    let spells = (c.parse.ensures.command (command.Check c.in-Ok-Check.workers c.in-Ok-Check.field-0-1)).0 (cc (c.in-Ok-Check.is, c.in-Ok-Check.field-0-is)) in
+    let within : c.in-Ok-Check.workers ≤ MAX_WORKERS = (workers-within c.args.words.now c.in-Ok-Check.workers c.in-Ok-Check.field-0-1 spells).1 in
+    search (rules, within)
+
+pub returns-in-Ok-Check-clause-check : goal.returns-in-Ok-Check-clause-check
+returns-in-Ok-Check-clause-check g c = λ workers file spells.
+    let other = (c.parse.ensures.command (command.Check workers file)).1 spells in
+    let same : c.in-Ok-Check.workers ≡ workers = cc (c.in-Ok-Check.is, c.in-Ok-Check.field-0-is, other) in
+    subst (λ (n : ℕ). IsEdit n
+    (outside (g.S.Source.left c.args.script.now) (g.S.Source.faults c.args.script.now) (g.D.Disk.moments c.args.disk.now) (g.D.Disk.faults c.args.disk.now) (g.O.Sink.got c.args.out.now) (g.O.Sink.faults c.args.out.now))
+    (outside (g.S.Source.left c.edit_checked.new.script) (g.S.Source.faults c.edit_checked.new.script) (g.D.Disk.moments c.edit_checked.new.disk) (g.D.Disk.faults c.edit_checked.new.disk) (g.O.Sink.got c.edit_checked.new.out) (g.O.Sink.faults c.edit_checked.new.out))
+    (c.edit_checked.new.disk ≡ c.args.disk.now) (c.edit_checked.new.out ≡ c.args.out.now) c.edit_checked.result) same c.edit_checked.ensures
+
+pub returns-in-Ok-Check-clause-edit : goal.returns-in-Ok-Check-clause-edit
+returns-in-Ok-Check-clause-edit g c = λ file spells.
+    let other = (c.parse.ensures.command (command.Edit file)).1 spells in
+    absurd (cc (c.in-Ok-Check.is, c.in-Ok-Check.field-0-is, other))
+
+pub returns-in-Ok-Check-clause-recover : goal.returns-in-Ok-Check-clause-recover
+returns-in-Ok-Check-clause-recover g c = λ file spells.
+    let other = (c.parse.ensures.command (command.Recover file)).1 spells in
+    absurd (cc (c.in-Ok-Check.is, c.in-Ok-Check.field-0-is, other))
+
+pub returns-in-Ok-Check-clause-generate : goal.returns-in-Ok-Check-clause-generate
+returns-in-Ok-Check-clause-generate g c = λ number count spells.
+    let other = (c.parse.ensures.command (command.Gen number count)).1 spells in
+    absurd (cc (c.in-Ok-Check.is, c.in-Ok-Check.field-0-is, other))
+
+pub returns-in-Ok-Edit-clause-check : goal.returns-in-Ok-Edit-clause-check
+returns-in-Ok-Edit-clause-check g c = λ workers file spells.
+    let other = (c.parse.ensures.command (command.Check workers file)).1 spells in
+    absurd (cc (c.in-Ok-Edit.is, c.in-Ok-Edit.field-0-is, other))
+
+pub returns-in-Ok-Recover-clause-check : goal.returns-in-Ok-Recover-clause-check
+returns-in-Ok-Recover-clause-check g c = λ workers file spells.
+    let other = (c.parse.ensures.command (command.Check workers file)).1 spells in
+    absurd (cc (c.in-Ok-Recover.is, c.in-Ok-Recover.field-0-is, other))
+
+pub returns-in-Ok-Gen-clause-check : goal.returns-in-Ok-Gen-clause-check
+returns-in-Ok-Gen-clause-check g c = λ workers file spells.
+    let other = (c.parse.ensures.command (command.Check workers file)).1 spells in
+    absurd (cc (c.in-Ok-Gen.is, c.in-Ok-Gen.field-0-is, other))
+
+pub returns-in-Err-clause-check : goal.returns-in-Err-clause-check
+returns-in-Err-clause-check g c = λ workers file spells.
+    let other = (c.parse.ensures.command (command.Check workers file)).1 spells in
     absurd (cc (c.in-Err.is, other))

@@ -2,7 +2,6 @@ use Rattle.std.proofs.Common.{◌≡◌, ℕ, List, Err, refl, ap, sym, subst}
 use Rattle.std.specs.Io.KnownBytes.{Appends}
 use Rattle.kte_causes.specs.Contents.{AppendsPrefix}
 use Rattle.kte_run.specs.declared.status.Status.{Status}
-use Rattle.kte_run.specs.declared.status.Status.TheVariants as status
 use Rattle.kte_run.specs.Run.{Outer}
 use Rattle.kte_run.specs.Recover.{IsRecovery}
 use Rattle.kte_run.proofs.RecoverLemmas.{recovery_unwritten, recovery_written, recovery_failed}

@@ -1,6 +1,6 @@
 use Rattle.std.proofs.Common.{◌≡◌, ◌∙◌, ℕ, true, List, Err, IfSome, ap, sym, subst}
 use Rattle.kte_causes.specs.DiskFaults.{AllStay}
-use Rattle.kte_causes.specs.Moments.{AddsMoments, Staying, saved_now, swap_now}
+use Rattle.kte_causes.specs.Moments.{AddsMoments, Staying, saved_now}
 use Rattle.kte_causes.proofs.CallerLemmas.{Staying-then, saved_now-stays}
 use Rattle.kte_text.specs.Files.{Refuses}
 use Rattle.kte_run.specs.Recover.{Shows, Tells, is_answer}

@@ -1,10 +1,8 @@
-use Rattle.std.proofs.Common.{◌≡◌, ◌≢◌, ◌∙◌, ℕ, true, false, List, IfSome, sym, subst}
-use Rattle.kte_causes.specs.DiskFaults.{AllStay}
+use Rattle.std.proofs.Common.{◌≡◌, ◌∙◌, ℕ, List, IfSome, sym, subst}
 use Rattle.kte_causes.specs.Moments.{swap_now}
 use Rattle.kte_causes.proofs.CallerLemmas.{Staying-then}
-use Rattle.kte_run.specs.Recover.{Shows, Tells, has_text, is_answer}
+use Rattle.kte_run.specs.Recover.{Shows, Tells}
 use Rattle.kte_run.specs.declared.saved.DiskFile.TheVariants.{Swap}
-use Rattle.kte_run.specs.declared.status.Status.TheVariants as status
 use Rattle.kte_run.proofs.Files.{file_now-stays, later}
 use Rattle.kte_run.proofs.RecoverLemmas.{err_then, is_some, of_file, ok_then}
 use Rattle.kte_run.proofs.recover.recovered_beside.Goals as goal

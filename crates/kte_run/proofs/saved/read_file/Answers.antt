@@ -1,4 +1,4 @@
-use Rattle.std.proofs.Common.{rules, ◌≡◌, ◌≤◌, ◌∙◌, length, arith}
+use Rattle.std.proofs.Common.{rules, ◌≡◌, ◌≤◌, length, arith}
 use Rattle.kte_causes.proofs.CallerLemmas.{Staying-none}
 use Rattle.kte_run.specs.Files.{file_now}
 use Rattle.kte_run.proofs.Files.{file_now-stays, front, if_then, read}

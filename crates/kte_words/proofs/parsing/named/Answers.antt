@@ -1,5 +1,5 @@
 use Rattle.std.proofs.Common.{rules, ◌∙◌, ap, Some, codes}
-use Rattle.kte_words.proofs.CommandLemmas.{form-stopped, edit-form, recover-form, gen-form, no-command}
+use Rattle.kte_words.proofs.CommandLemmas.{form-stopped, edit-form, check-form, recover-form, gen-form, no-command}
 use Rattle.kte_words.proofs.parsing.named.Goals as goal
 
 pub returns-in_err-file_alone-in-edit-clause-misfit :
@@ -7,6 +7,13 @@ pub returns-in_err-file_alone-in-edit-clause-misfit :
 returns-in_err-file_alone-in-edit-clause-misfit c =
     let is = c.requires ∙ ap Some c.in-edit.is in
     let first = form-stopped _ _ edit-form c.args.words.now _ is (c.in_err-file_alone-in-edit.ensures.err (codes "edit") is) in
+    search (rules, first)
+
+pub returns-in_err-workers-in-check-clause-misfit :
+    goal.returns-in_err-workers-in-check-clause-misfit
+returns-in_err-workers-in-check-clause-misfit c =
+    let is = c.requires ∙ ap Some c.in-check.is in
+    let first = form-stopped _ _ check-form c.args.words.now _ is c.in_err-workers-in-check.ensures.err in
     search (rules, first)
 
 pub returns-in_err-file_alone-in-recover-clause-misfit :
@@ -26,6 +33,7 @@ pub returns-in_default-clause-misfit : goal.returns-in_default-clause-misfit
 returns-in_default-clause-misfit c =
     no-command c.args.name.now c.args.words.now c.requires (record {
       edit = c.in_default.not-edit;
+      check = c.in_default.not-check;
       recover = c.in_default.not-recover;
       gen = c.in_default.not-gen;
     })
