@@ -64,6 +64,43 @@ fn two_checks_run_at_once(rt: HostRuntime) -> Result<(), Fail> {
     Ok(())
 }
 
+/// A checker that runs out of memory over pairs.
+#[derive(Drop)]
+struct OutOfMemory;
+
+impl Checker for OutOfMemory {
+    fn check(&self, alloc: Global, rule: &Rule, text: &Text) -> Result<Spans, AllocError> {
+        match rule {
+            Rule::Pairs => Err(AllocError),
+            _ => PlainChecker.check(alloc, rule, text),
+        }
+    }
+}
+
+#[test]
+fn a_checker_without_memory_ends_the_run(rt: HostRuntime) -> Result<(), Fail> {
+    let alloc = rt.alloc();
+    for workers in ["1", "2", "16"] {
+        let words = words(alloc, &["check", workers, "file"])?;
+        let script = b"check blanks\ncheck pairs\ncheck blanks\ninsert 0 0 \"a\"";
+        let mut script = CalmSource::new(script.to_vec(alloc)?);
+        let mut disk = CalmDisk::new(b"(a  ".to_vec(alloc)?, Vec::new(alloc));
+        let mut sink = CalmSink::new(alloc);
+        let status = run(
+            &rt,
+            alloc,
+            &words,
+            &mut script,
+            &mut disk,
+            &mut sink,
+            &OutOfMemory,
+        );
+        assert_eq!(rt; status, Status::NoMemory);
+        assert!(rt; sink.bytes().is_empty());
+    }
+    Ok(())
+}
+
 #[test]
 fn a_run_without_jobs_ends(rt: HostRuntime) -> Result<(), Fail> {
     let (status, written) = outcome(&rt, rt.alloc(), &["check", "16", "file"], b"", b"")?;
