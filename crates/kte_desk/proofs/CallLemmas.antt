@@ -1,5 +1,5 @@
 -- What the requests of a pass make of the core.
-use Rattle.std.proofs.Common.{◌≡◌, ◌≢◌, ℕ, ◌+◌, ◌-◌, ◌<◌, ◌≤◌, ◌^◌, ◌==◌, Bool, true, false, List, [], ◌∷◌, ◌++◌, length, get_or, take, take_all, All, Option, Some, None, IfSome, Bor, cond, refl, ap, sym, subst, ◌∙◌, arith, eq-eqb, ne_eqb}
+use Rattle.std.proofs.Common.{◌≡◌, ◌≢◌, ℕ, ◌+◌, ◌-◌, ◌<◌, ◌≤◌, ◌^◌, ◌==◌, Bool, true, false, List, [], ◌∷◌, ◌++◌, length, take, take_all, All, Option, Some, None, IfSome, Bor, cond, refl, ap, sym, subst, ◌∙◌, arith, eq-eqb, ne_eqb}
 use Rattle.std.specs.Option.{option_map, option_copied}
 use Rattle.std.proofs.lemmas.Bool.{true≢false}
 use Rattle.std.proofs.lemmas.List.{append_cancel_right}
@@ -31,11 +31,10 @@ use Rattle.kte_core.specs.Replay.{Session, Finds, IsAnswered, IsLegal, Legal, af
 use Rattle.kte_core.specs.Shown.{Reacts}
 use Rattle.kte_core.specs.declared.event.Event.{Event}
 use Rattle.kte_core.specs.declared.event.Step.{Step}
-use Rattle.kte_core.specs.declared.reply.Reply.{Reply}
 use Rattle.kte_core.specs.declared.reply.Reply.TheVariants as reply
 use Rattle.kte_core.specs.declared.request.Request.{Request}
 use Rattle.kte_core.specs.declared.request.Request.TheVariants.{Cmd, Close, Take, Deliver, GiveBack, Outcome}
-use Rattle.kte_core.proofs.AllJobLemmas.{rule_stays, rule_stays-replay}
+use Rattle.kte_core.proofs.AllJobLemmas.{rule_stays-replay}
 use Rattle.kte_core.proofs.CallerLemmas.{present-push}
 use Rattle.kte_core.proofs.CaseLemmas.{event_grows}
 use Rattle.kte_core.proofs.JournalLemmas.{finds-replay}

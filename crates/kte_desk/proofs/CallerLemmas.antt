@@ -1,5 +1,5 @@
 -- For callers: what the rule of a job finds in its text may be delivered.
-use Rattle.std.proofs.Common.{◌≡◌, ℕ, List, Some, sym, ap, subst, ◌∙◌}
+use Rattle.std.proofs.Common.{◌≡◌, ℕ, List, sym, ap, subst, ◌∙◌}
 use Rattle.std.proofs.lemmas.Option.{same_Some}
 use Rattle.kte_place.specs.Ends.{Ends}
 use Rattle.kte_find.specs.Findings.{AreFindings}

@@ -1,11 +1,10 @@
 -- How far the numbers of a session rise: the events of other seats than the editor's claim none.
-use Rattle.std.proofs.Common.{◌≡◌, ℕ, ◌+◌, ◌*◌, ◌==◌, ◌<◌, ◌≤◌, ◌^◌, Bool, true, false, List, [], ◌∷◌, length, Option, Some, None, if◌then◌else◌, cond, refl, ap, sym, subst, ◌∙◌, arith, eq-eqb}
+use Rattle.std.proofs.Common.{◌≡◌, ℕ, ◌+◌, ◌*◌, ◌==◌, ◌≤◌, ◌^◌, Bool, true, false, List, [], ◌∷◌, length, Option, Some, None, if◌then◌else◌, cond, refl, ap, sym, subst, arith, eq-eqb}
 use Rattle.std.specs.Option.{option_map}
 use Rattle.std.proofs.lemmas.List.Sums.{sum_by_push}
 use Rattle.kte_place.specs.Ends.{Ends}
 use Rattle.kte_find.specs.declared.found.TheConstants.{MAX_FINDINGS}
 use Rattle.kte_find.specs.declared.rule.Rule.{Rule}
-use Rattle.kte_find.specs.Findings.{AreFindings}
 use Rattle.kte_jobs.specs.declared.job.JobState.{JobState}
 use Rattle.kte_jobs.specs.declared.job.JobState.TheVariants.{Waiting, Taken, Done}
 use Rattle.kte_jobs.specs.Job.{Job}
@@ -15,7 +14,7 @@ use Rattle.kte_core.specs.Editing.{revision_of}
 use Rattle.kte_core.specs.State.{State, Reaction}
 use Rattle.kte_core.specs.Jobs.{taken_at, take_job, deliver, give_back}
 use Rattle.kte_core.specs.Requests.{ranges_of, HasNumbers, IsAllowed}
-use Rattle.kte_core.specs.Replay.{Session, IsAnswered, IsLegal, Finds, Legal, after_event, came_of, beginning, present, replay}
+use Rattle.kte_core.specs.Replay.{Session, IsLegal, Finds, Legal, after_event, came_of, beginning, present, replay}
 use Rattle.kte_core.specs.JobsInWords.{JobChange}
 use Rattle.kte_core.specs.JobsInWords.JobChange.{stays, closes, posts, takes, finishes, returns}
 use Rattle.kte_core.specs.declared.event.Event.{Event}

@@ -14,7 +14,7 @@ use Rattle.kte_jobs.specs.declared.job.JobState.TheVariants.{Waiting, Taken, Don
 use Rattle.kte_jobs.specs.Job.{Job, is_waiting}
 use Rattle.kte_jobs.specs.Jobs.{state_of, least_waiting}
 use Rattle.kte_jobs.proofs.JobLemmas.{stands, job_at_number}
-use Rattle.kte_core.specs.Editing.{Editing, revision_of}
+use Rattle.kte_core.specs.Editing.{Editing, revision_of, text_of}
 use Rattle.kte_core.specs.State.{State, Reaction}
 use Rattle.kte_core.specs.Jobs.{taken_in, taken_at, take_job, deliver}
 use Rattle.kte_core.specs.JobsInWords.{count_waiting}
@@ -33,7 +33,7 @@ use Rattle.kte_core.proofs.SeatLemmas.{closed_stays, untaken_stays}
 use Rattle.kte_core.proofs.TakeLemmas.{take_came, took, deliver_came, delivered_done, returned, returned_waits}
 use Rattle.kte_core.proofs.CountLemmas.{waiting_took, waiting_same}
 use Rattle.kte_desk.specs.Schedule.{WentWell}
-use Rattle.kte_desk.specs.Serving.{Alone, CanDrain, Delivers, HasRoom, IsIdle, NoneTaken, Serves, own}
+use Rattle.kte_desk.specs.Serving.{Alone, CanDrain, DeliversFound, HasRoom, IsIdle, NoneTaken, Serves, own}
 use Rattle.kte_desk.proofs.HistoryLemmas.{present-more, append-settled}
 
 -- what comes of a request of the editor is an event that is answered
@@ -67,6 +67,7 @@ pub record Takes (state : State) (job : ℕ) (answer : Reply) (after : State) : 
   pub closed : state.closed ≡ true → after.closed ≡ true
   pub room : HasRoom after (MAX_FINDINGS * (count_waiting after + 1))
   pub fewer : count_waiting after + 1 ≡ count_waiting state
+  pub text : text_of after.editing ≡ text_of state.editing
 
 pub takes : (state : State) (job : ℕ) (answer : Reply) → CanDrain state → least_waiting state.jobs ≡ Some job
     → IsAnswered state (own Take answer) → Takes state job answer (after_event state (own Take answer))
@@ -92,6 +93,7 @@ takes state job answer can least answered =
       closed = closed_stays state event;
       room = record { depth = omega arith; jobs = omega arith; ranges = omega arith };
       fewer = fewer;
+      text = ap text_of has.editing;
     }
 
 pub takes_by : (state after : State) (job : ℕ) (step : Step) → CanDrain state → least_waiting state.jobs ≡ Some job → Reacts state 0 Take step after
@@ -150,6 +152,7 @@ pub record Finishes (state : State) (job : ℕ) (findings : List Ends) (answer :
       → NoneTaken (after_event state (own (Deliver job findings) answer))
   pub closed : state.closed ≡ true → (after_event state (own (Deliver job findings) answer)).closed ≡ true
   pub same : count_waiting (after_event state (own (Deliver job findings) answer)) ≡ count_waiting state
+  pub text : text_of (after_event state (own (Deliver job findings) answer)).editing ≡ text_of state.editing
 
 pub finishes : (state : State) (job revision : ℕ) (findings : List Ends) (answer : Reply) → taken_at state.jobs 0 job ≡ Some revision
     → HasRoom state (MAX_FINDINGS * (count_waiting state + 1)) → length findings ≤ MAX_FINDINGS
@@ -178,6 +181,7 @@ finishes state job revision findings answer taken has_room few answered =
       ];
       closed = closed_stays state event;
       same = same;
+      text = ap text_of has.editing;
     }
 
 -- a Take and its delivery, once the session is closed
@@ -223,10 +227,11 @@ pub record Served (before after : Session) : Type 0 where
   pub none : NoneTaken (present before) → NoneTaken (present after)
   pub closed : (present before).closed ≡ true → (present after).closed ≡ true
   pub fewer : count_waiting (present after) + 1 ≡ count_waiting (present before)
+  pub text : text_of (present after).editing ≡ text_of (present before).editing
 
 pub served : (before between after : Session) (job : ℕ) (answer : Reply) → CanDrain (present before) → least_waiting (present before).jobs ≡ Some job
     → between ≡ record before { events = before.events ++ own Take answer ∷ [] } → IsAnswered (present before) (own Take answer)
-    → Delivers job between after → Served before after
+    → DeliversFound job between after → Served before after
 served before between after job answer can least is answered delivers =
     let first : Event = own Take answer in
     let second : Event = own (Deliver job delivers.findings) delivers.reply in
@@ -252,6 +257,7 @@ served before between after job answer can least is answered delivers =
       none = λ none. subst NoneTaken (sym at_end) (done.none (took.others none));
       closed = λ shut. ap (λ (s : State). s.closed) at_end ∙ done.closed (took.closed shut);
       fewer = ap (λ (s : State). count_waiting s + 1) at_end ∙ ap (λ n. n + 1) done.same ∙ took.fewer;
+      text = ap (λ (s : State). text_of s.editing) at_end ∙ done.text ∙ took.text;
     }
 
 -- where none waits and nobody works on one, all are done

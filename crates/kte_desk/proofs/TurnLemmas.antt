@@ -1,5 +1,5 @@
 -- What a turn makes of what a pass knows.
-use Rattle.std.proofs.Common.{◌≡◌, ◌≢◌, ℕ, ◌+◌, ◌<◌, ◌≤◌, ◌^◌, ◌==◌, Bool, true, false, List, [], ◌∷◌, ◌++◌, length, drop, All, Option, Some, None, cond, refl, ap, sym, subst, ◌∙◌, arith, eq-eqb, ne_eqb, append_assoc, length-append}
+use Rattle.std.proofs.Common.{◌≡◌, ◌≢◌, ℕ, ◌+◌, ◌<◌, ◌≤◌, ◌^◌, ◌==◌, List, [], ◌∷◌, ◌++◌, length, All, Option, Some, None, cond, refl, ap, sym, subst, ◌∙◌, arith, eq-eqb, ne_eqb, append_assoc, length-append}
 use Rattle.std.proofs.lemmas.Option.{same_Some}
 use Rattle.std.proofs.lemmas.List.Sums.{count_by-le-length, length-filter}
 use Rattle.std.proofs.lemmas.List.Elements.{All-nil, All-cons}
@@ -8,17 +8,16 @@ use native.Mathlib.Decide.{ℕ_discrete}
 use mathlib.Core.List.{IsPrefix}
 use Rattle.kte_text.specs.Texts.{IsText}
 use Rattle.kte_turn.specs.Known.{events_of, news, left}
-use Rattle.kte_turn.proofs.StoryLemmas.{IsPrefix-append, append-nil, events_of-append, events_of-other, news-append}
+use Rattle.kte_turn.proofs.StoryLemmas.{IsPrefix-append, events_of-append, events_of-other, news-append}
 use Rattle.kte_core.specs.State.{State}
-use Rattle.kte_core.specs.Replay.{Session, IsLegal, Legal, after_event, beginning, present, replay}
+use Rattle.kte_core.specs.Replay.{Session, IsLegal, Legal, present, replay}
 use Rattle.kte_core.specs.declared.event.Event.{Event}
-use Rattle.kte_core.specs.declared.request.Request.TheVariants.{Take}
 use Rattle.kte_core.proofs.JournalLemmas.{Legal-one_more, follows-replay, replay-append, text_stays}
 use Rattle.kte_core.proofs.SeatLemmas.{free_stays-replay}
 use Rattle.kte_core.proofs.TakeLemmas.{works_on-replay}
 use Rattle.kte_desk.specs.Calls.{Adds, AddsNone, Found, Leaves, Turns, beginning_of}
 use Rattle.kte_desk.specs.Seen.{Sees, first_state, seat_of, seen_state}
-use Rattle.kte_desk.specs.Works.{IsWork, Works, WorksAsSeen, text_then}
+use Rattle.kte_desk.specs.Works.{Works, WorksAsSeen}
 use Rattle.kte_desk.specs.declared.beginning.Beginning.{Beginning}
 use Rattle.kte_desk.specs.declared.work.Work.{Work}
 

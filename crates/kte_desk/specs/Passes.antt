@@ -1,5 +1,5 @@
 -- What clauses say of a desk and of its passes. This project's own rules.
-use Rattle.std.specs.Prelude.{◌≡◌, ℕ, ◌+◌, List, [], length, All, Option, None, sum_by}
+use Rattle.std.specs.Prelude.{◌≡◌, ℕ, ◌+◌, List, All, Option, sum_by}
 use Rattle.atomic_table.specs.Seated.{TableId}
 use Rattle.kte_turn.specs.Passes.{pass_known, pass_turn, turn_id}
 use Rattle.kte_core.specs.declared.event.Event.{Event}

@@ -1,6 +1,6 @@
 -- What a pass knows of the core: what it began from, and what it has seen of its journal. This
 -- project's own rules.
-use Rattle.std.specs.Prelude.{◌≡◌, ℕ, List, Some}
+use Rattle.std.specs.Prelude.{◌≡◌, ℕ, Some}
 use Rattle.kte_turn.specs.Known.{Known}
 use Rattle.kte_core.specs.State.{State}
 use Rattle.kte_core.specs.Replay.{beginning, replay}

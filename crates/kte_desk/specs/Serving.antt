@@ -57,8 +57,8 @@ pub record Drains (before after : Session) : Type 0 where
   pub serves : Serves before after
   pub done : All (λ job. job.state ≡ Done) (present after).jobs
 
--- what is delivered of a job is added, which is what its rule finds
-pub record Delivers (job : ℕ) (before after : Session) : Type 0 where
+-- what the rule of a job finds is delivered, and nothing else is added
+pub record DeliversFound (job : ℕ) (before after : Session) : Type 0 where
   pub findings : List Ends
   pub reply : Reply
   pub events : after ≡ record before {

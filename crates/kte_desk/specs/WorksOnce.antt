@@ -1,12 +1,11 @@
 -- A pass has its job in one way only, so that a struct may keep this fact.
-use Rattle.std.proofs.Common.{◌≡◌, ℕ, Option, Some, None}
+use Rattle.std.proofs.Common.{ℕ, Option, Some, None}
 use denote.Struct.Props as logic
 use Rattle.kte_text.specs.Texts.{IsText}
 use Rattle.kte_core.specs.State.{State}
 use Rattle.kte_core.proofs.PropLemmas.{free-prop, works_on-prop}
 use Rattle.kte_desk.specs.Seen.{Sees, seen_state}
-use Rattle.kte_desk.specs.Works.{IsWork, Works, WorksAsSeen, text_then}
-use Rattle.kte_desk.specs.declared.beginning.Beginning.{Beginning}
+use Rattle.kte_desk.specs.Works.{Works, WorksAsSeen, text_then}
 use Rattle.kte_desk.specs.declared.work.Work.{Work}
 
 works-prop : (state : State) (seat : ℕ) (work : Option Work) → IsProp (Works state seat work)

@@ -1,4 +1,4 @@
-use Rattle.std.proofs.Common.{◌≡◌, ℕ, ◌+◌, ◌-◌, ◌≤◌, [], All, length, vec_capacity}
+use Rattle.std.proofs.Common.{◌≡◌, ◌+◌, ◌-◌, ◌≤◌, All, length, vec_capacity}
 use Rattle.kte_turn.specs.Passes.{pass_known, pass_turn, turn_id}
 use Rattle.kte_desk.specs.Calls.{AreFresh}
 use Rattle.kte_desk.specs.declared.pass.CheckerPass.{CheckerPass}

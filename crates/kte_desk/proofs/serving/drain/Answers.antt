@@ -1,47 +1,19 @@
-use Rattle.std.proofs.Common.{◌≡◌, ◌∙◌, ℕ, None, Some, Result, Ok, Err, refl, ap, sym}
-use Rattle.std.specs.Prelude.{OnErr}
-use Rattle.kte_desk.specs.Serving.{NoneTaken}
-use Rattle.kte_jobs.specs.Jobs.{least_waiting}
-use Rattle.kte_core.specs.Replay.{Session, present}
+use Rattle.std.proofs.Common.{◌≡◌, ◌∙◌, ℕ, false, Option, Some, None, refl, sym}
+use Rattle.std.specs.Prelude.{is_some}
+use Rattle.std.proofs.lemmas.Bool.{true≢false}
+use Rattle.kte_core.specs.Replay.{present}
 use Rattle.kte_core.proofs.OneJobLemmas.{least_none}
-use Rattle.kte_desk.proofs.HistoryLemmas.{Serves-none, Serves-then}
+use Rattle.kte_desk.proofs.HistoryLemmas.{Serves-none}
 use Rattle.kte_desk.proofs.ServeLemmas.{all_done}
 use Rattle.kte_desk.proofs.serving.drain.Goals as goal
 
-pub loop-job-init : goal.loop-job-init
-loop-job-init g c = (c.requires, λ idle. (Serves-none c.args.core.now, idle), λ none. none, λ none. refl)
+none_of : (o : Option ℕ) → is_some o ≡ false → o ≡ None
+none_of None is = refl
+none_of (Some job) is = absurd (true≢false is)
 
--- a job waits, where none did and nothing was done
-never : (before now : Session) (job : ℕ) → (least_waiting (present before).jobs ≡ None → now ≡ before)
-    → Some job ≡ least_waiting (present now).jobs → least_waiting (present before).jobs ≡ None → ⊥
-never before now job same waits none =
-    let here = waits ∙ ap (λ (session : Session). least_waiting (present session).jobs) (same none) ∙ none in
-    cc
-
-pub loop-job-preserved : goal.loop-job-preserved
-loop-job-preserved g c = (
-  c.in_ok-serve.ensures.can,
-  λ idle. (
-    Serves-then c.args.core.now c.loop-job.core c.serve.new.core (c.loop-job.invariant.1 idle).0
-        (c.in_ok-serve.ensures.ok (c.loop-job.invariant.1 idle).1),
-    c.in_ok-serve.ensures.idle (c.loop-job.invariant.1 idle).1,
-  ),
-  λ none. c.in_ok-serve.ensures.none (c.loop-job.invariant.2 none),
-  λ none. absurd (never c.args.core.now c.loop-job.core c.in-Some.job c.loop-job.invariant.3 c.in-Some.ensures none),
-)
-
-pub returns-clause-ok : goal.returns-clause-ok
-returns-clause-ok g c = λ idle. record {
-  serves = (c.loop-job.invariant.1 idle).0;
-  done = all_done (present c.loop-job.core).jobs (least_none (present c.loop-job.core).jobs (sym c.in_default.ensures)) (c.loop-job.invariant.1 idle).1.none_taken;
+-- no job waits, so all are done
+pub returns-then-is_none-clause-ok : goal.returns-then-is_none-clause-ok
+returns-then-is_none-clause-ok g c = λ idle. record {
+  serves = Serves-none c.args.core.now;
+  done = all_done (present c.args.core.now).jobs (least_none (present c.args.core.now).jobs (sym c.waiting.ensures ∙ none_of c.waiting.result c.if-is_none.ensures)) idle.none_taken;
 }
-
--- what holds holds after an error
-after_err : {T E : Type 0} (r : Result T E) (P : Type 0) → P → OnErr r P
-after_err (Ok value) P h = tt
-after_err (Err error) P h = h
-
-pub returns-in_err-serve-clause-err : goal.returns-in_err-serve-clause-err
-returns-in_err-serve-clause-err g c =
-    after_err c.from_residual.result (NoneTaken (present c.args.core.now) → NoneTaken (present c.serve.new.core))
-    (λ none. c.in_err-serve.ensures.err (c.loop-job.invariant.2 none))

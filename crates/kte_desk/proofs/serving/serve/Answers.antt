@@ -1,4 +1,4 @@
-use Rattle.std.proofs.Common.{refl}
+use Rattle.std.proofs.Common.{◌∙◌, refl, sym}
 use Rattle.kte_core.specs.JobsInWords.{count_waiting}
 use Rattle.kte_core.specs.Editing.{revision_of}
 use Rattle.kte_core.specs.Replay.{present}
@@ -14,6 +14,12 @@ step-requires-clause-numbers g c = numbers-take (present c.args.core.now) c.args
 pub deliver-requires-clause-taken : goal.deliver-requires-clause-taken
 deliver-requires-clause-taken g c =
     (takes_by (present c.args.core.now) (present c.step.new.self) c.args.job c.in_ok-step.field-0 c.requires.can c.requires.least c.in_ok-step.ensures.reacts).taken
+
+-- the Take has left the text as it was
+pub deliver-requires-clause-text : goal.deliver-requires-clause-text
+deliver-requires-clause-text g c =
+    c.requires.text
+    ∙ sym (takes_by (present c.args.core.now) (present c.step.new.self) c.args.job c.in_ok-step.field-0 c.requires.can c.requires.least c.in_ok-step.ensures.reacts).text
 
 pub deliver-requires-clause-room : goal.deliver-requires-clause-room
 deliver-requires-clause-room g c =
@@ -56,3 +62,6 @@ returns-in-Ok-clause-none g c = (done g c).none
 
 pub returns-in-Ok-clause-idle : goal.returns-in-Ok-clause-idle
 returns-in-Ok-clause-idle g c = λ idle. record { closed = (done g c).closed idle.closed; none_taken = (done g c).none idle.none_taken }
+
+pub returns-in-Ok-clause-text : goal.returns-in-Ok-clause-text
+returns-in-Ok-clause-text g c = (done g c).text

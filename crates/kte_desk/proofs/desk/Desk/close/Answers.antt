@@ -1,14 +1,11 @@
-use Rattle.std.proofs.Common.{rules, ◌≡◌, ℕ, ◌+◌, [], ◌∷◌, ◌++◌, List, All, map, map-id, length, refl, sym, ap, ◌∙◌, subst}
-use Rattle.std.specs.List.{flat_map}
+use Rattle.std.proofs.Common.{rules, ◌≡◌, All, map-id, sym, ◌∙◌, subst}
 use Rattle.std.proofs.lemmas.Iterator.Adapters.{YieldsList-from_vec}
-use Rattle.std.proofs.lemmas.Iterator.Consumers.{YieldsList-end, YieldsList-turn}
+use Rattle.std.proofs.lemmas.Iterator.Consumers.{YieldsList-end}
 use mathlib.Core.List.{IsPrefix}
-use Rattle.kte_turn.specs.Known.{events_of}
 use Rattle.kte_turn.specs.Passes.{pass_known}
-use Rattle.kte_desk.specs.Seen.{seat_of}
-use Rattle.kte_desk.specs.Passes.{checker_known, own_of}
+use Rattle.kte_desk.specs.Passes.{checker_known}
 use Rattle.kte_desk.specs.declared.pass.CheckerPass.{CheckerPass}
-use Rattle.kte_desk.proofs.JoinLemmas.{Joined, none_joined, one_joined, prefix_then}
+use Rattle.kte_desk.proofs.JoinLemmas.{one_joined, prefix_then}
 use Rattle.kte_desk.proofs.desk.Desk.close.Goals as goal
 
 pub loop-checker-preserved : goal.loop-checker-preserved

@@ -1,5 +1,4 @@
-use Rattle.std.proofs.Common.{◌≡◌, ◌≢◌, ◌<◌, All, None, Some, Ok, Err, IsOk, refl, sym, ap, subst, ◌∙◌, arith}
-use Rattle.kte_place.specs.Ends.{SpanIsInReach}
+use Rattle.std.proofs.Common.{None, refl, subst, arith}
 use Rattle.kte_turn.specs.Passes.{pass_known, stay_known}
 use Rattle.kte_core.specs.Replay.{present}
 use Rattle.kte_core.specs.declared.event.Event.{Event}

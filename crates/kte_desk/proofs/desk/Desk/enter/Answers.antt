@@ -1,5 +1,4 @@
-use Rattle.std.proofs.Common.{◌≡◌, ◌<◌, refl, arith}
-use Rattle.kte_turn.specs.Passes.{pass_known}
+use Rattle.std.proofs.Common.{refl, arith}
 use Rattle.kte_desk.proofs.desk.Desk.enter.Goals as goal
 
 pub returns-clause-found : goal.returns-clause-found

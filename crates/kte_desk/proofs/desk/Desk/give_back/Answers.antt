@@ -1,12 +1,10 @@
-use Rattle.std.proofs.Common.{◌≡◌, ◌≢◌, ◌<◌, All, None, Some, Ok, Err, IsOk, refl, sym, ap, subst, ◌∙◌, arith}
+use Rattle.std.proofs.Common.{None, IsOk, refl, sym, ap, subst, ◌∙◌, arith}
 use Rattle.std.proofs.lemmas.Bool.{true≢false}
-use Rattle.kte_place.specs.Ends.{SpanIsInReach}
 use Rattle.kte_turn.specs.Passes.{pass_known, stay_known}
 use Rattle.kte_core.specs.Replay.{present}
 use Rattle.kte_core.specs.declared.event.Event.{Event}
 use Rattle.kte_core.specs.declared.request.Request.TheVariants.{GiveBack}
 use Rattle.kte_desk.specs.Calls.{Adds}
-use Rattle.kte_core.specs.declared.reply.Reply.TheVariants.{Returned}
 use Rattle.kte_desk.proofs.CallLemmas.{checker_after, free_returned, leaves, legal_return, return_told, taken_by, turned, works_after}
 use Rattle.kte_desk.proofs.NumberLemmas.{has_numbers}
 use Rattle.kte_desk.proofs.TurnLemmas.{few_other}

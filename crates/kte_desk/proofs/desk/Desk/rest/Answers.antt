@@ -1,4 +1,3 @@
-use Rattle.std.proofs.Common.{ap, subst, sym}
 use Rattle.kte_turn.specs.Passes.{pass_known, stay_known}
 use Rattle.kte_desk.proofs.CallLemmas.{checker_still, works_still}
 use Rattle.kte_desk.proofs.desk.Desk.rest.Goals as goal

@@ -1,4 +1,4 @@
-use Rattle.std.proofs.Common.{◌≡◌, ℕ, ◌+◌, ap, sym, ◌∙◌, arith}
+use Rattle.std.proofs.Common.{ap, arith}
 use Rattle.kte_turn.specs.Passes.{pass_known}
 use Rattle.kte_desk.specs.Seen.{Sees}
 use Rattle.kte_desk.proofs.JoinLemmas.{shares_of_fresh}

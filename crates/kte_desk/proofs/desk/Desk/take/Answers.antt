@@ -1,5 +1,4 @@
-use Rattle.std.proofs.Common.{◌≡◌, ◌≢◌, ◌<◌, All, None, Some, Ok, Err, IsOk, Option, refl, sym, ap, subst, ◌∙◌, arith}
-use Rattle.kte_text.specs.declared.text.Text.{Text}
+use Rattle.std.proofs.Common.{◌≡◌, None, Some, Err, IsOk, refl, sym, subst, ◌∙◌, arith}
 use Rattle.kte_turn.specs.Passes.{pass_known, stay_known}
 use Rattle.kte_jobs.specs.Jobs.{rule_of}
 use Rattle.kte_core.specs.State.{State}
@@ -11,9 +10,8 @@ use Rattle.kte_core.specs.declared.reply.Reply.TheVariants.{Took}
 use Rattle.kte_core.proofs.AllJobLemmas.{rule_stays}
 use Rattle.kte_core.proofs.OneJobLemmas.{least_none}
 use Rattle.kte_desk.specs.Calls.{Adds}
-use Rattle.kte_desk.specs.Works.{Works, WorksAsSeen, text_then}
+use Rattle.kte_desk.specs.Works.{WorksAsSeen, text_then}
 use Rattle.kte_desk.specs.declared.pass.Taking.{Taking}
-use Rattle.kte_desk.specs.declared.work.Work.{Work}
 use Rattle.kte_desk.proofs.CallLemmas.{checker_after, checker_still, leaves, one_waits, sees_after, sees_still, takes_work, text_took, turned, turned_still, works_after, works_still}
 use Rattle.kte_desk.proofs.NumberLemmas.{has_numbers}
 use Rattle.kte_desk.proofs.TurnLemmas.{few_other, found_works}

@@ -1,6 +1,5 @@
 use Rattle.std.proofs.Common.{Option, subst}
 use Rattle.kte_turn.specs.Passes.{pass_known}
-use Rattle.kte_core.specs.Replay.{replay}
 use Rattle.kte_core.proofs.KeptLemmas.{keeps-beginning, keeps-replay}
 use Rattle.kte_desk.specs.Seen.{first_state}
 use Rattle.kte_desk.specs.Works.{WorksAsSeen}
